@@ -1,0 +1,4 @@
+//! Names that `cancellation.rs` gives on; nothing here uses them.
+
+pub struct MeterBytes;
+pub struct MeterBytesError;

@@ -1,0 +1,539 @@
+#!/usr/bin/env python3
+"""Cases by seed, one a line: valid files, damaged files and library states.
+
+    generate.py COUNT [SEED]
+
+docs/ORACLE.md has the text forms. Each case has a generator of its own, seeded by the seed and its number.
+"""
+
+import itertools
+import random
+import sys
+import types
+
+EDGES = (0, 1, 2, 63, 64, 65, 127, 128, 129, 511, 512)
+LIMIT = 65536
+
+
+def pack(number):
+    return number.to_bytes(2, "little")
+
+
+def size_of(records):
+    return sum(4 + len(body) for _, body in records)
+
+
+def subset(rng, n, style):
+    """A set of atoms below n."""
+    if n == 0 or style == "empty":
+        return 0
+    if style == "dense":
+        return rng.getrandbits(n)
+    if style == "pair":
+        first = rng.randrange(n)
+        return 1 << first | 1 << min(first + rng.choice((1, 1, 2)), n - 1)
+    return sum(1 << atom for atom in rng.sample(range(n), min(n, rng.choice((1, 2, 2, 3, 3, 4)))))
+
+
+def atoms_of(mask):
+    return [atom for atom in range(mask.bit_length()) if mask >> atom & 1]
+
+
+# Records
+
+
+def row_of(rng, mask, truth):
+    """A row that the truth meets, if there is one; now and then an atom is named twice."""
+    atoms = atoms_of(mask)
+    rng.shuffle(atoms)
+    if atoms and rng.random() < 0.1:
+        atoms += rng.choices(atoms, k=2)
+    constant = rng.getrandbits(1) if truth is None else (mask & truth).bit_count() % 2
+    return 2, bytes([constant]) + b"".join(map(pack, atoms))
+
+
+def table_record(rng, n, truth):
+    """A table whose allowed patterns are an affine set, all or none; and its number of equations."""
+    k = rng.randint(0, min(8, n))
+    atoms = sorted(rng.sample(range(n), k))
+    if truth is None:
+        anchor = rng.randrange(1 << k)
+    else:
+        anchor = sum((truth >> atom & 1) << bit for bit, atom in enumerate(atoms))
+    allowed = affine_set(rng, k, anchor)
+    if rng.random() < 0.1:
+        allowed = set(range(1 << k))
+    elif truth is None and rng.random() < 0.05:
+        allowed = set()
+    equations = k + 1 - len(allowed).bit_length() if allowed else 1
+    return (3, bytes([k]) + b"".join(map(pack, atoms)) + table_words(rng, k, allowed)), equations
+
+
+def affine_set(rng, k, anchor):
+    patterns = {anchor}
+    for _ in range(rng.randint(0, k)):
+        step = rng.randrange(1 << k)
+        patterns |= {pattern ^ step for pattern in patterns}
+    return patterns
+
+
+def table_words(rng, k, allowed):
+    """The forbidden patterns, with anything in the bits that are ignored."""
+    count = 2 * -(-(1 << k) // 128)
+    forbidden = sum(1 << pattern for pattern in range(1 << k) if pattern not in allowed)
+    if rng.random() < 0.3:
+        forbidden |= rng.getrandbits(64 * count) >> (1 << k) << (1 << k)
+    return forbidden.to_bytes(8 * count, "little")
+
+
+def ladder(rng, n, truth):
+    """Rows of rising lowest atom, in any order, and some sums of them: a rank near a border of words."""
+    rank = min(n, rng.choice((n, n - 1, 63, 64, 65, 127, 128, 129, 255, 256, 257)))
+    rows = [1 << low | subset(rng, n, "sparse") >> low << low for low in rng.sample(range(n), rank)]
+    rows += [rng.choice(rows) ^ rng.choice(rows) for _ in range(rng.randint(0, min(40, 512 - rank)))]
+    rng.shuffle(rows)
+    return [row_of(rng, row, truth) for row in rows]
+
+
+def system_records(rng, n, rows, tables, truth, limit):
+    """Records of kinds 2 and 3 that make at most `rows` rows and `limit` bytes."""
+    records, made, size = [], 0, 0
+    styles = rng.choice((["sparse"], ["pair"], ["dense"], ["sparse", "pair", "dense", "empty"]))
+    for _ in range(2 * rows):
+        if rng.random() < tables:
+            record, count = table_record(rng, n, truth)
+        else:
+            record, count = row_of(rng, subset(rng, n, rng.choice(styles)), truth), 1
+        if made + count <= rows and size + 4 + len(record[1]) <= limit:
+            made, size = made + count, size + 4 + len(record[1])
+            records.append(record)
+    return records
+
+
+def call_records(rng, n, count, truth):
+    """Decisions that mostly follow the truth, inspections and probes."""
+    follow = rng.choice((0.5, 0.9, 1.0))
+    weights = rng.choice(((2, 1, 1), (1, 1, 1), (8, 1, 0), (1, 1, 4)))
+    records = []
+    for kind in rng.choices((4, 5, 6), weights, k=count):
+        if kind != 4:
+            records.append((kind, b""))
+        elif n:
+            atom = rng.randrange(n)
+            value = rng.getrandbits(1) if truth is None or rng.random() > follow else truth >> atom & 1
+            records.append((4, pack(atom) + bytes([value])))
+    return records
+
+
+# Files
+
+
+SHAPES = {  # weight, atoms, most rows, most calls
+    "small": (50, range(9), 8, 25),
+    "edge": (25, EDGES, 40, 25),
+    "wide": (5, EDGES, 512, 10),
+    "ladder": (10, (64, 65, 127, 128, 129, 257, 511, 512), 0, 12),
+    "long": (6, range(4, 70), 30, 400),
+    "full": (2, EDGES, 512, 4),
+}
+
+
+def valid_records(rng):
+    shape = rng.choices(list(SHAPES), [shape[0] for shape in SHAPES.values()])[0]
+    _, atoms, rows, calls = SHAPES[shape]
+    n = rng.choice(atoms)
+    rows = 512 if shape == "full" or rng.random() < 0.3 and shape == "wide" else rng.randint(0, rows)
+    truth = None if rng.random() < 0.2 else rng.getrandbits(n + 1) & (1 << n) - 1
+    tables = rng.choice((0, 0.2, 0.7))
+    records = [(1, pack(n))]
+    if shape == "ladder":
+        records += ladder(rng, n, truth)
+    records += system_records(rng, n, rows, tables, truth, LIMIT - 4096)
+    records += call_records(rng, n, rng.randint(0, calls), truth)
+    if shape == "full":
+        fill(rng, records, n)
+    return records
+
+
+def fill(rng, records, n):
+    """Grow a file to its limit: tables that allow all, which make no row, then inspections."""
+    k = min(8, n)
+    atoms = b"".join(map(pack, sorted(rng.sample(range(n), k))))
+    table = 3, bytes([k]) + atoms + table_words(rng, k, set(range(1 << k)))
+    room = LIMIT - size_of(records)
+    at = len(records) - len([kind for kind, _ in records if kind > 3])
+    records[at:at] = [table] * (room // size_of([table]))
+    records += [(5, b"")] * ((LIMIT - size_of(records)) // 4)
+
+
+def assemble(records):
+    """Records are (kind, body), or bytes that are taken as they are."""
+    return b"".join(
+        record if isinstance(record, bytes) else pack(2 + len(record[1])) + pack(record[0]) + record[1]
+        for record in records
+    )
+
+
+# Damage: each reaches the number in its name, unless an earlier fault hides it
+
+
+def fault_1(rng, records, at, n):
+    how = rng.randrange(4)
+    if how == 0:
+        records.append(rng.choice((b"\x00", b"\x02", b"\x09\x00\x05")))
+    elif how == 1:
+        records[at] = pack(rng.randint(0, 1)) + assemble([records[at]])[2:]
+    elif how == 2:
+        past = rng.choice((len(assemble(records[at:])) - 1, 65535))
+        records[at] = pack(min(past, 65535)) + assemble([records[at]])[2:]
+    else:
+        records[:] = [assemble(records)[: -rng.randint(1, 3)]]
+
+
+def fault_2(rng, records, at, n):
+    how = rng.randrange(5)
+    if how == 0:
+        records[at] = rng.choice((0, 7, 8, 258, 513, 65535)), b"" if rng.getrandbits(1) else b"\x00\x00"
+    elif how == 1:
+        records.insert(at + 1, (1, rng.choice((pack(n), pack(600), b""))))
+    elif how == 2:
+        records += [(rng.choice((5, 6)), b""), (2, rng.choice((b"\x00", b"\x09", b"")))]
+    elif how == 3:
+        records[0] = rng.choice((2, 3, 4, 5, 6)), rng.choice((b"", b"\x00"))
+    else:
+        records.clear()
+
+
+def fault_3(rng, records, at, n):
+    kind, body = 5, b"\x00"
+    if not isinstance(records[at], bytes):
+        kind, body = records[at]
+        body = rng.choice((body + b"\x00", body + b"\x00\x00\x00", body[:-1], b""))
+    spare = rng.choice(((kind, body), (2, b"\x09\x00"), (3, b""), (3, b"\x02\x00\x00"), (4, b"\xff\xff"), (6, b"\x01")))
+    records[at] = spare if at and rng.getrandbits(1) else (kind, body)
+
+
+def fault_4(rng, records, at, n):
+    high = pack(rng.choice((n, n + 1, 65535)))
+    above = bytes([rng.choice((2, 255))])
+    bodies = {
+        1: [pack(rng.choice((513, 65535)))],
+        2: [above, b"\x00" + high, above + high],
+        3: [bytes([rng.choice((9, 255))]) + bytes(rng.choice((0, 40))), b"\x01" + high + bytes(16),
+            b"\x02" + high + pack(0) + bytes(16), b"\x03" + pack(1) + pack(0) + high + bytes(16)],
+        4: [high + b"\x00", high + above, pack(0) + above],
+    }
+    kind = records[at][0] if not isinstance(records[at], bytes) else 0
+    if kind in bodies and rng.getrandbits(1):
+        records[at] = kind, rng.choice(bodies[kind])
+    else:
+        kind = rng.choice((2, 3, 3, 4))
+        where = rng.randint(1, first_call(records)) if kind < 4 else len(records)
+        records.insert(where, (kind, rng.choice(bodies[kind])))
+
+
+def first_call(records):
+    at = len(records)
+    while at > 1 and not isinstance(records[at - 1], bytes) and records[at - 1][0] > 3:
+        at -= 1
+    return at
+
+
+def fault_5(rng, records, at, n):
+    last = max(n - 1, 0)
+    atoms = rng.choice(([last, 0], [0, 0], [0, last, last], [0, last, 0], [last, 0, n]))
+    body = bytes([len(atoms)]) + b"".join(map(pack, atoms)) + rng.randbytes(16)
+    records.insert(rng.randint(1, first_call(records)), (3, body))
+
+
+def fault_6(rng, records, at, n):
+    """Three of four patterns, five of eight, or a random table."""
+    k, word = rng.choice(((2, 1), (2, 8), (3, 248), (3, 7), (4, rng.getrandbits(16)), (8, 1)))
+    k = min(k, n)
+    atoms = sorted(rng.sample(range(n), k))
+    body = bytes([k]) + b"".join(map(pack, atoms)) + word.to_bytes(16 * -(-(1 << k) // 128), "little")
+    records.insert(rng.randint(1, first_call(records)), (3, body))
+
+
+def fault_7(rng, records, at, n):
+    where = first_call(records)
+    one_row = rng.choice(((2, b"\x00"), (3, b"\x00\x01" + bytes(15))))
+    records[where:where] = [one_row] * rng.choice((512, 513, 600))
+    if n >= 3:
+        table = 3, b"\x03" + pack(0) + pack(1) + pack(2) + rng.choice((248, 254)).to_bytes(16, "little")
+        records.insert(where + rng.choice((508, 510, 511, 512)), table)
+
+
+def fault_8(rng, records, at, n):
+    records.append(bytes(LIMIT + rng.choice((0, 1, 1, 5000)) - min(LIMIT, len(assemble(records)))))
+
+
+def fault_byte(rng, records, at, n):
+    data = bytearray(assemble(records))
+    if data:
+        data[rng.randrange(len(data))] = rng.choice((0, 1, 2, 255, rng.getrandbits(8)))
+    records[:] = [bytes(data)]
+
+
+FAULTS = (fault_1, fault_2, fault_3, fault_4, fault_5, fault_6, fault_7, fault_8, fault_byte)
+
+
+def damaged_file(rng):
+    records = valid_records(rng)
+    while size_of(records) > 3000:
+        records = valid_records(rng)
+    n = int.from_bytes(records[0][1], "little")
+    for fault in rng.choices(FAULTS, (4, 4, 4, 4, 3, 3, 2, 0.3, 4), k=rng.choice((1, 2, 2))):
+        if records:
+            fault(rng, records, rng.randrange(len(records)), n)
+    return assemble(records)
+
+
+# Library states
+
+
+def show(name, values, form="{}"):
+    return " ".join([name, *map(form.format, values)])
+
+
+def split(mask, count=None):
+    """A set as words: so many, or as many as it needs."""
+    if count is None:
+        count = max(1, -(-mask.bit_length() // 64))
+    return [mask >> 64 * at & 2**64 - 1 for at in range(count)]
+
+
+def decided(rng, n, truth):
+    """Held and cut: some atoms, mostly as the truth has them."""
+    half, most = rng.getrandbits(n + 1), rng.getrandbits(n + 1) | rng.getrandbits(n + 1) | rng.getrandbits(n + 1)
+    some = rng.choice((0, half, most, most, -1)) & (1 << n) - 1
+    if rng.random() < 0.4:
+        truth ^= subset(rng, n, "sparse")
+    return some & truth, some & ~truth
+
+
+class State(types.SimpleNamespace):
+    """What a call is lent, fit or not; `line` writes it down."""
+
+    def field(self, name):
+        width = -(-self.n // 64)
+        values = {
+            "system": [self.n, self.m, self.rank, "refuted" if self.refuted else "sound"],
+            "size": [self.n, self.m],
+            "atoms": [self.n],
+            "rank": [self.rank],
+            "atom": [self.atom],
+            "rows": [word for row in self.rows for word in split(row, width)],
+            "constants": [int(constant) for constant in self.constants],
+            "basis": self.basis,
+            "index": [word for column in self.columns for word in split(column, 2 * -(-self.rank // 128))],
+            "region": [self.region_n],
+            "held": split(self.held),
+            "cut": split(self.cut),
+            "known": [self.known_n] if self.known else ["fresh"],
+            "oldheld": split(self.old_held) if self.known else [],
+            "oldcut": split(self.old_cut) if self.known else [],
+            "forced": [self.forced],
+            "room": self.room,
+        }[name]
+        values = values[: len(values) - self.short.get(name, 0)]
+        hexadecimal = name in ("rows", "index", "held", "cut", "oldheld", "oldcut")
+        return show(name, values, "{:x}" if hexadecimal else "{}")
+
+    def line(self, call):
+        names = CALLS[call].split()
+        if not self.known:
+            names = [name for name in names if not name.startswith("old")]
+        return " ".join([call, *map(self.field, names)])
+
+
+def random_state(rng):
+    n = rng.choice(EDGES) if rng.random() < 0.4 else rng.randint(0, 8)
+    m = rng.choice((rng.randint(0, 8), rng.randint(0, 40), rng.choice((127, 128, 129, 512)) if n < 70 else 64))
+    truth = rng.getrandbits(n + 1) & (1 << n) - 1
+    style, noise = rng.choice(("sparse", "pair", "dense")), rng.choice((0, 0.02, 0.5))
+    rows = [subset(rng, n, style) for _ in range(m)]
+    places = min(m, n)
+    basis = [rng.randrange(m) for _ in range(places)] if rng.random() < 0.3 else rng.sample(range(m), places)
+    rank = rng.choice((places, rng.randint(0, places)))
+    held, cut = decided(rng, n, truth)
+    earlier = rng.choice((0, 0, rng.getrandbits(n + 1), -1))
+    return State(
+        n=n, m=m, rank=rank, refuted=rng.random() < 0.1, rows=rows,
+        constants=[(row & truth).bit_count() % 2 ^ (rng.random() < noise) for row in rows],
+        basis=basis, columns=marks(rng, n, [rows[b] for b in basis[:rank]]),
+        region_n=n, held=held, cut=cut,
+        known=rng.random() < 0.6, known_n=n, old_held=held & earlier, old_cut=cut & earlier,
+        forced=rank + rng.choice((0, 3)), room=[places, places, n * 2 * -(-places // 128)],
+        atom=rng.randrange(n) if n else 0, short={},
+    )
+
+
+def marks(rng, n, rows):
+    """The columns that preparation would make, or any."""
+    how = rng.choice(("true", "true", "random", "none"))
+    if how == "true":
+        return [sum(1 << j for j, row in enumerate(rows) if row >> atom & 1) for atom in range(n)]
+    return [rng.getrandbits(len(rows) + 1) >> 1 if how == "random" else 0 for _ in range(n)]
+
+
+REGION = " region held cut"
+KNOWN = " known oldheld oldcut"
+CALLS = {
+    "prepare": "size rows constants room",
+    "hold": "atom" + REGION,
+    "cut": "atom" + REGION,
+    "column": "atom atoms rank index",
+    "touched": "system index" + REGION + KNOWN,
+    "inspect": "system rows constants basis index" + REGION + KNOWN + " forced",
+    "probe": "system rows constants basis" + REGION,
+}
+
+
+def spoil(rng, state):
+    """One fault that the caller's list names; the state may have others."""
+    n, stray = state.n, 1 << state.n + rng.choice((0, 0, 1, 40))
+    stray = stray if stray < 1 << 512 else 1 << 511
+    how = rng.choice((9, 10, 11, 12, 13, 14, 15, 16, 18))
+    if how == 9:
+        state.short[rng.choice(("rows", "constants", "basis", "index"))] = 1
+        state.forced = max(0, state.rank - rng.randint(0, 1))
+        state.room[rng.randrange(3)] -= 1
+        state.room = [max(0, length) for length in state.room]
+    elif how == 10:
+        name = rng.choice(("n", "m", "region_n", "known_n", "rank"))
+        setattr(state, name, rng.choice((513, 600)))
+    elif how == 11:
+        part = rng.choice(("row", "constant", "held", "cut"))
+        if part == "row" and state.rows:
+            state.rows[rng.randrange(len(state.rows))] |= stray
+        elif part == "constant" and state.constants:
+            state.constants[rng.randrange(len(state.constants))] = rng.choice((2, 255))
+        elif part in ("held", "cut"):
+            setattr(state, part, getattr(state, part) | stray)
+    elif how == 12:
+        both = subset(rng, n, "sparse")
+        state.held, state.cut = state.held | both, state.cut | both
+    elif how == 13:
+        if rng.getrandbits(1):
+            state.rank = min(state.m, n) + 1
+        elif state.basis:
+            state.basis[rng.randrange(len(state.basis))] = state.m + rng.choice((0, 1, 600))
+    elif how == 14 and state.columns:
+        state.columns[rng.randrange(len(state.columns))] |= 1 << state.rank + rng.choice((0, 1, 64))
+    elif how == 15:
+        name = rng.choice(("region_n", "known_n"))
+        setattr(state, name, max(0, n + rng.choice((-1, 1, 64, 128))))
+    elif how == 16:
+        if rng.getrandbits(1):
+            state.old_held, state.old_cut = state.cut, state.held
+        else:
+            state.old_held |= subset(rng, n + 2, "sparse")
+    elif how == 18:
+        state.atom = n + rng.choice((0, 1, 63, 64, 1000))
+
+
+def state_case(rng):
+    if rng.random() < 0.2:
+        return hull_case(rng)
+    state = random_state(rng)
+    for _ in range(rng.choice((0, 0, 1, 2))):
+        spoil(rng, state)
+    return state.line(rng.choices(list(CALLS), (3, 1, 1, 1, 3, 8, 4))[0])
+
+
+def hull_case(rng):
+    """Part of an affine set or a random table, now and then with a bad k or length."""
+    k = rng.randint(0, 8)
+    count = 2 * -(-(1 << k) // 128)
+    if rng.getrandbits(1):
+        allowed, share = affine_set(rng, k, rng.randrange(1 << k)), rng.choice((0.5, 0.9, 1))
+        allowed = {pattern for pattern in allowed if rng.random() < share}
+        word = int.from_bytes(table_words(rng, k, allowed), "little")
+    else:
+        word = rng.getrandbits(64 * count)
+        for _ in range(rng.randint(0, 4)):
+            word |= rng.getrandbits(64 * count)
+    if rng.random() < 0.1:
+        k = rng.choice((k, 9, 64, 255))
+        count += rng.choice((-1, 1, 2))
+    return " ".join([show("hull k", [k]), show("words", split(word, count), "{:x}")])
+
+
+def tables(limit):
+    """All tables of at most `limit` atoms."""
+    for k in range(limit + 1):
+        for word in range(1 << (1 << k)):
+            yield f"hull k {k} words {word:x} 0"
+
+
+def file_of(n, rows, calls=()):
+    """Rows are (constant, atom, ...); calls are kind-4 pairs (atom, value) or kinds."""
+    records = [(1, pack(n))] + [(2, bytes([constant]) + b"".join(map(pack, atoms))) for constant, *atoms in rows]
+    records += [(call, b"") if isinstance(call, int) else (4, pack(call[0]) + bytes([call[1]])) for call in calls]
+    return "file " + assemble(records).hex()
+
+
+def settled():
+    """The examples of document 01, and the longest file."""
+    yield (
+        "file 040001000300070002000100000100070002000001000200170003000200000200"
+        "09000000000000000000000000000000020006000500040001000102000500020006000500040000" "0001"
+    )
+    for words in ("0 words 0 0", "0 words 1 0", "1 words 1 0", "2 words 9 0", "2 words 8 0", "3 words ff 0",
+                  "8 words 0 0 0 0", "8 words 0 0"):
+        yield f"hull k {words}"
+    yield file_of(1, [(1, 0), (0, 0)], [6])
+    yield file_of(1, [(1,)], [5, 6])
+    yield file_of(0, [], [6])
+    yield file_of(3, [(1, 0, 1), (1, 1, 2), (1, 0, 2)])
+    yield file_of(2, [(1, 0, 1)], [(0, 1), (1, 1), 6])
+    yield file_of(3, [(0, 0, 2), (1, 1, 2)], [(0, 1), (1, 1), 5, 5])
+    yield file_of(512, [(1, 511)], [5])
+    yield file_of(513, [])
+    yield file_of(2, [(0, 0, 1)] * 512)
+    yield file_of(2, [(0, 0, 1)] * 513)
+    table = 3, b"\x08" + b"".join(map(pack, range(8))) + bytes(32)
+    longest = assemble([(1, pack(8))] + [table] * 1236 + [(2, b"\x00")] * 2 + [(5, b"")] * 3)
+    yield f"file {longest.hex()}"
+    yield f"file {longest.hex()}00"
+
+
+def small_states():
+    """A grid of library states of at most two atoms and one row, fit or not, shortest first."""
+    lines = {f"hull k {k} words" + " 0" * count for k in (0, 7, 8, 9) for count in range(6)}
+    for n, m, rank, refuted, row, constant, entry, mark in itertools.product(
+        (0, 1, 2), (0, 1), (0, 1, 2), (False, True), (0, 1, 2), (0, 1), (0, 1), (0, 1, 2, 1 << 64)
+    ):
+        places = max(rank, min(m, n))
+        state = State(
+            n=n, m=m, rank=rank, refuted=refuted, rows=[row] * m, constants=[constant + entry] * m,
+            basis=[entry] * places, columns=[mark] * n, forced=rank, room=[places, places, 2 * n * constant],
+            region_n=n, held=0, cut=0, known=False, short={}, atom=row, old_cut=0,
+        )
+        lines |= {state.line(call) for call in ("prepare", "hold", "cut", "column")}
+        if rank > min(m, n) + 1 or not m and row + constant or not n * rank and mark:
+            continue
+        state.constants = [constant] * m
+        for state.region_n, state.held, state.cut, (state.known, state.known_n, state.old_held) in itertools.product(
+            (0, 1, 2, 129), (0, 1), (0, 1, 2), ((False, 0, 0), (True, 0, 0), (True, 1, 0), (True, 1, 1), (True, 2, 0))
+        ):
+            lines |= {state.line(call) for call in ("touched", "inspect", "probe")}
+    return sorted(lines, key=lambda line: (len(line), line))
+
+
+def file_case(rng):
+    file = assemble(valid_records(rng)) if rng.random() < 0.6 else damaged_file(rng)
+    return f"file {file.hex()}".strip()
+
+
+def case(seed, number):
+    """Two files, then a state."""
+    rng = random.Random(f"{seed}/{number}")
+    return state_case(rng) if number % 3 == 2 else file_case(rng)
+
+
+if __name__ == "__main__":
+    seed = sys.argv[2] if len(sys.argv) > 2 else "0"
+    for number in range(int(sys.argv[1])):
+        print(case(seed, number))
