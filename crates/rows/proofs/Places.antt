@@ -1,9 +1,9 @@
 -- Where a row lies in flat words: inside them or not, and its words.
-use Prim.Native.Nat.{ℕ, suc, _+_, _-_, _*_, _/_, _^_, _≤_, _<_}
+use Prim.Native.Nat.{ℕ, suc, _+_, _-_, _*_, _/_, _≤_, _<_}
 use mathlib.Core.Path.{_≡_, refl, sym, ap}
 use mathlib.Core.List.{List, []}
 use mathlib.Core.Bool.{Bool, true, false, cond}
-use native.Mathlib.Nat.{mul-le-mul, suc-mul, mul-zero, le-div-iff-mul-le, div-lt-iff-lt-mul}
+use native.Mathlib.Nat.{suc-mul, mul-zero, le-div-iff-mul-le, div-lt-iff-lt-mul}
 use native.Mathlib.Omega.{arith}
 use borrow.Author.Tests.{le-leb, lt-leb, leb-true, ltb-true, ltb-false}
 use lib.ListN.{length, length-take, length-drop}
@@ -14,12 +14,6 @@ use Rattle.rows.specs.declared.Source.{Source}
 
 pub within-none : (w r n : ℕ) → w ≡ 0 → leb (r * w + w) n ≡ true
 within-none w r n e = le-leb (r * w + w) n (omega (arith, ap (λ (k : ℕ). r * k) e, mul-zero r))
-
-pub product-fits : (w r : ℕ) → w < 2 ^ 32 → r < 2 ^ 32 → r * w + w < 2 ^ 64
-product-fits w r hw hr =
-    let a : r ≤ 2 ^ 32 - 1 = omega arith in
-    let b : w ≤ 2 ^ 32 - 1 = omega arith in
-    omega (arith, mul-le-mul a b)
 
 pub within-div : (w r n : ℕ) → 0 < w → ltb r (n / w) ≡ leb (r * w + w) n
 within-div w r n h = go (ltb r (n / w)) refl

@@ -66,20 +66,14 @@ pub fn source_at(basis: &[usize], place: Ordinal) -> Entry
     Entry::Names(Source(basis[at]))
 }
 
-// Whether a row lies within so many words; a product that could wrap is not made.
+// Whether a row lies within so many words. A quotient cannot wrap, where the row's place could.
 fn lies_within(words: usize, width: usize, row: Source) -> bool
     ensures { λ r. ⌜ r ≡ leb (row .0 * width + width) words ⌝ }
 {
-    let number = row.0;
     if width == 0 {
         return true;
     }
-    if width < 0x1_0000_0000 {
-        if number < 0x1_0000_0000 {
-            return number * width + width <= words;
-        }
-    }
-    number < words / width
+    row.0 < words / width
 }
 
 // The words of a row, or none where it does not lie within the rows.

@@ -1,8 +1,8 @@
--- `rows::lies_within` meets its contract, by the product where it fits and else by the quotient.
+-- `rows::lies_within` meets its contract, by the quotient.
 use Prim.Native.Nat.{_<_}
 use mathlib.Core.Path.{sym}
 use native.Mathlib.Omega.{arith}
-use Rattle.rows.proofs.Places.{within-none, within-div, product-fits}
+use Rattle.rows.proofs.Places.{within-none, within-div}
 use borrow.Author.Needs.{needs}
 use Rattle.rows.proofs.lies_within.Statement.{statement}
 use Rattle.rows.proofs.lies_within.Tie as tie
@@ -10,24 +10,14 @@ use Rattle.rows.proofs.lies_within.Tie as tie
 returns : tie.Need-returns
 returns c = sym (within-none _ _ _ (c .if1 .taken))
 
-mul-result : tie.Need-mul-result
-mul-result c = omega (arith, product-fits (c .before .before .before .args .width) (c .before .before .before .args .row .0) (c .before .if2 .taken) (c .if3 .taken))
-
-add-result : tie.Need-add-result
-add-result c = omega (arith, product-fits (c .before .before .before .args .width) (c .before .before .before .args .row .0) (c .before .if2 .taken) (c .if3 .taken))
-
-returns-2 : tie.Need-returns-2
-returns-2 c = search needs
-
 div-result : tie.Need-div-result
 div-result c = search needs
 
-returns-3 : tie.Need-returns-3
-returns-3 c =
+returns-2 : tie.Need-returns-2
+returns-2 c =
     let a = c .before .before .args in
     let some : 0 < a .width = omega arith in
     within-div (a .width) (a .row .0) (a .words) some
 
 pub lies-within-spec : {M : Type 1} → statement M
-lies-within-spec =
-    tie.close (tie.spec returns mul-result add-result returns-2 div-result returns-3)
+lies-within-spec = tie.close (tie.spec returns div-result returns-2)
