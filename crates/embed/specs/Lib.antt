@@ -1,0 +1,4 @@
+-- What the contracts of `embed` cite, in the order to read it.
+pub mod Embed
+pub mod Written
+pub mod Promises

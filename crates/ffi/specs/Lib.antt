@@ -1,0 +1,2 @@
+-- What the contracts of `ffi` cite.
+pub mod Answers

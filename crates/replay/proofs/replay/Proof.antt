@@ -1,0 +1,48 @@
+-- `replay::replay` is safe: it goes on by a case at a time.
+use Prim.Native.Nat.{_+_, _-_, _≤_}
+use mathlib.Core.Logic.{⊎-elim}
+use native.Mathlib.Omega.{arith}
+use borrow.Author.Needs.{needs}
+use Rattle.replay.proofs.replay.Statement.{statement}
+use Rattle.replay.proofs.replay.Tie as tie
+
+abbrev Inv-loop : tie.InvT-loop
+Inv-loop input agreed₀ at₀ agreed at = (agreed ≤ at) × (at ≤ 65000 + 85)
+
+abbrev μ-loop : tie.MeasureT-loop
+μ-loop input agreed₀ at₀ agreed at = 65085 - at
+
+loop-holds : tie.Need-loop-holds Inv-loop μ-loop
+loop-holds c = search needs
+
+agrees-requires : tie.Need-agrees-requires Inv-loop μ-loop
+agrees-requires c κs = search needs
+
+add-agreed : tie.Need-add-agreed Inv-loop μ-loop
+add-agreed c = search needs
+
+add-at : tie.Need-add-at Inv-loop μ-loop
+add-at c = search needs
+
+loop-less : tie.Need-loop-less Inv-loop μ-loop
+loop-less c = search needs
+
+loop-again : tie.Need-loop-again Inv-loop μ-loop
+loop-again c = ⊎-elim (λ w. (omega arith, omega arith)) (λ w. (omega arith, omega arith)) (c .if1 .came)
+
+returns : tie.Need-returns Inv-loop μ-loop
+returns c = search needs
+
+pub replay-spec : {M : Type 1} → statement M
+replay-spec =
+    tie.close
+    (tie.spec
+    Inv-loop
+    μ-loop
+    loop-holds
+    agrees-requires
+    add-agreed
+    add-at
+    loop-less
+    loop-again
+    returns)

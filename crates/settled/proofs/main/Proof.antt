@@ -1,0 +1,81 @@
+-- `settled::main`: each number is the one that the definition computes.
+use mathlib.Core.Path.{ap}
+use borrow.Author.Tests.{eq-eqb}
+use Rattle.hull.specs.Propose.{proposalOf, proposeUnfit}
+use Rattle.hull.specs.declared.Proposal.{Proposal}
+use borrow.Author.Needs.{needs}
+use Rattle.settled.proofs.main.Statement.{statement}
+use Rattle.settled.proofs.main.Tie as tie
+
+array-share-prefix-words : tie.Need-array-share-prefix-words
+array-share-prefix-words c = search needs
+
+slice-aggregate-propose : tie.Need-slice-aggregate-propose
+slice-aggregate-propose c = search needs
+
+propose-requires : tie.Need-propose-requires
+propose-requires c κs = search needs
+
+expect-requires : tie.Need-expect-requires
+unfolding proposalOf proposeUnfit
+expect-requires c κs = eq-eqb (c .before .propose .result .number) 17 (ap (λ (p : Proposal). p .number) (c .before .propose .ensures))
+
+array-share-prefix-words-2 : tie.Need-array-share-prefix-words-2
+array-share-prefix-words-2 c = search needs
+
+slice-aggregate-propose-2 : tie.Need-slice-aggregate-propose-2
+slice-aggregate-propose-2 c = search needs
+
+propose-requires-2 : tie.Need-propose-requires-2
+propose-requires-2 c κs = search needs
+
+expect-requires-2 : tie.Need-expect-requires-2
+unfolding proposalOf proposeUnfit
+expect-requires-2 c κs = eq-eqb (c .before .propose2 .result .number) 0 (ap (λ (p : Proposal). p .number) (c .before .propose2 .ensures))
+
+slice-aggregate-propose-3 : tie.Need-slice-aggregate-propose-3
+slice-aggregate-propose-3 c = search needs
+
+propose-requires-3 : tie.Need-propose-requires-3
+propose-requires-3 c κs = search needs
+
+expect-requires-3 : tie.Need-expect-requires-3
+unfolding proposalOf proposeUnfit
+expect-requires-3 c κs = eq-eqb (c .before .propose3 .result .number) 17 (ap (λ (p : Proposal). p .number) (c .before .propose3 .ensures))
+
+array-share-prefix-words-3 : tie.Need-array-share-prefix-words-3
+array-share-prefix-words-3 c = search needs
+
+slice-aggregate-propose-4 : tie.Need-slice-aggregate-propose-4
+slice-aggregate-propose-4 c = search needs
+
+propose-requires-4 : tie.Need-propose-requires-4
+propose-requires-4 c κs = search needs
+
+expect-requires-4 : tie.Need-expect-requires-4
+unfolding proposalOf proposeUnfit
+expect-requires-4 c κs = eq-eqb (c .before .propose4 .result .number) 17 (ap (λ (p : Proposal). p .number) (c .before .propose4 .ensures))
+
+returns : tie.Need-returns
+returns c = search needs
+
+pub main-spec : {M : Type 1} → statement M
+main-spec =
+    tie.close
+    (tie.spec
+    array-share-prefix-words
+    slice-aggregate-propose
+    propose-requires
+    expect-requires
+    array-share-prefix-words-2
+    slice-aggregate-propose-2
+    propose-requires-2
+    expect-requires-2
+    slice-aggregate-propose-3
+    propose-requires-3
+    expect-requires-3
+    array-share-prefix-words-3
+    slice-aggregate-propose-4
+    propose-requires-4
+    expect-requires-4
+    returns)

@@ -1,0 +1,158 @@
+/* The calls of the library for C, proved in crates/ffi; link the archive that `rt staticlib ffi` writes.
+ *
+ * A set is an array of 64-bit words: atom a is bit a % 64 of word a / 64. Rows lie one after the other in one array: row r of
+ * width w is the words r * w to r * w + w - 1, and its constant is byte r of the constants.
+ *
+ * A buffer is a pointer and then its length in elements. The pointer is not NULL and is aligned for its element, also where
+ * the length is 0; a buffer that a call changes overlaps no other of that call. Nothing outside a buffer is read or written,
+ * no call keeps a pointer, and every call ends. Any number is taken for any parameter: what is unfit changes nothing, and the
+ * answer says so. */
+#ifndef WORZUBIL_H
+#define WORZUBIL_H
+
+#include <stdbool.h>
+#include <stddef.h>
+#include <stdint.h>
+
+#ifdef __cplusplus
+extern "C" {
+#endif
+
+/* The kinds of an answer. With any but the first, all other fields are 0. */
+enum {
+    WORZUBIL_ANSWERED = 0, /* the value answers; of a yes or no it is 1 or 0 */
+    WORZUBIL_NOTHING = 1,  /* nothing is there */
+    WORZUBIL_UNFIT = 2,    /* lengths differ, or a row or a mask does not lie within what is lent */
+    WORZUBIL_TOO_WIDE = 3  /* 2^58 words or more: more bits than a size_t numbers */
+};
+
+typedef struct {
+    size_t kind;
+    size_t value;
+} worzubil_answer;
+
+typedef struct {
+    size_t word;
+    uint64_t bit; /* the one bit of the atom, in its word */
+} worzubil_located;
+
+typedef struct {
+    size_t kind; /* WORZUBIL_ANSWERED or WORZUBIL_NOTHING */
+    size_t bit;
+    uint64_t remaining;
+} worzubil_step;
+
+typedef struct {
+    size_t kind; /* WORZUBIL_ANSWERED or WORZUBIL_UNFIT */
+    size_t start;
+    size_t length;
+} worzubil_span;
+
+/* ---- one word, one atom */
+
+/* The word of an atom and its bit there. No buffer. */
+worzubil_located worzubil_locate(size_t atom);
+
+/* The number of set bits of a word. No buffer. */
+uint32_t worzubil_popcount(uint64_t word);
+
+/* The lowest set bit of a word, and the word without it, to be asked next; WORZUBIL_NOTHING where the word is 0. No buffer. */
+worzubil_step worzubil_next(uint64_t word);
+
+/* ---- sets */
+
+/* Whether the set has the atom. words: any length; an atom past its end is in no set: false. */
+bool worzubil_contains(const uint64_t *words, size_t words_length, size_t atom);
+
+/* Adds the atom: true. words: more than atom / 64 words; a shorter one stays as it is: false. */
+bool worzubil_insert(uint64_t *words, size_t words_length, size_t atom);
+
+/* Adds the atoms of right to left: true. Both of one length; where they differ, left stays as it is: false. */
+bool worzubil_union_assign(uint64_t *left, size_t left_length, const uint64_t *right, size_t right_length);
+
+/* Leaves in left the atoms that are in just one of the two: true. Both of one length; where they differ, left stays as it
+ * is: false. */
+bool worzubil_xor_assign(uint64_t *left, size_t left_length, const uint64_t *right, size_t right_length);
+
+/* Whether every atom of left is in right. Both of one length; where they differ: WORZUBIL_UNFIT. */
+worzubil_answer worzubil_is_subset_of(const uint64_t *left, size_t left_length, const uint64_t *right, size_t right_length);
+
+/* Whether an odd number of atoms is in both. Both of one length; where they differ: WORZUBIL_UNFIT. */
+worzubil_answer worzubil_intersection_parity(const uint64_t *left, size_t left_length, const uint64_t *right,
+                                             size_t right_length);
+
+/* How many atoms are in both. Both of one length; where they differ: WORZUBIL_UNFIT; 2^58 words or more: WORZUBIL_TOO_WIDE. */
+worzubil_answer worzubil_intersection_count(const uint64_t *left, size_t left_length, const uint64_t *right,
+                                            size_t right_length);
+
+/* How many atoms the set has. words: any length; 2^58 words or more: WORZUBIL_TOO_WIDE. */
+worzubil_answer worzubil_count(const uint64_t *words, size_t words_length);
+
+/* The lowest atom, or WORZUBIL_NOTHING. words: any length; 2^58 words or more: WORZUBIL_TOO_WIDE. */
+worzubil_answer worzubil_first(const uint64_t *words, size_t words_length);
+
+/* ---- rows */
+
+/* The words of a row of so many atoms. No buffer. */
+size_t worzubil_width(size_t atoms);
+
+/* The row that a place of the basis names. basis: more than `place` elements; of a shorter one: WORZUBIL_NOTHING. */
+worzubil_answer worzubil_source_at(const size_t *basis, size_t basis_length, size_t place);
+
+/* Where a row's words lie: `length` words from rows[start] on. rows: number * width + width words; of fewer: WORZUBIL_UNFIT. */
+worzubil_span worzubil_row(const uint64_t *rows, size_t rows_length, size_t width, size_t number);
+
+/* A row's lowest atom, or WORZUBIL_NOTHING. rows: number * width + width words; of fewer, and of a width of 2^58 or more:
+ * WORZUBIL_UNFIT. */
+worzubil_answer worzubil_lowest_atom(const uint64_t *rows, size_t rows_length, size_t width, size_t number);
+
+/* Whether the row has an odd number of the mask's atoms. rows: number * width + width words; mask: width words, and what
+ * follows them does not count; where one is shorter: WORZUBIL_UNFIT. */
+worzubil_answer worzubil_overlap_parity(const uint64_t *rows, size_t rows_length, size_t width, size_t number,
+                                        const uint64_t *mask, size_t mask_length);
+
+/* How many of the mask's atoms the row has. rows: number * width + width words; mask: width words, and what follows them
+ * does not count; where one is shorter, and of a width of 2^58 or more: WORZUBIL_UNFIT. */
+worzubil_answer worzubil_overlap_count(const uint64_t *rows, size_t rows_length, size_t width, size_t number,
+                                       const uint64_t *mask, size_t mask_length);
+
+/* Adds row `source` to the later row `target`, words and constants, by exclusive or: true. rows: target * width + width words;
+ * constants: more than `target` bytes; where one is shorter, or source is not below target, both stay as they are: false. */
+bool worzubil_add(uint64_t *rows, size_t rows_length, uint8_t *constants, size_t constants_length, size_t width, size_t target,
+                  size_t source);
+
+/* ---- tables */
+
+/* One equation of a table: bit i of the coefficients is the i-th atom named. */
+typedef struct {
+    uint8_t coefficients;
+    bool constant;
+} worzubil_equation;
+
+/* The equations of a table; those from `count` on are 0. */
+typedef struct {
+    worzubil_equation equations[8];
+    size_t count;
+    bool exact;
+} worzubil_hull;
+
+/* `number` is 0, or 17 and all else is 0. */
+typedef struct {
+    size_t number;
+    worzubil_hull hull;
+} worzubil_proposal;
+
+/* The equations of a table of k atoms, 0 to 8. The table has 2 * ceil(2^k / 128) words; any other length gets 17, as does k above 8. */
+worzubil_proposal worzubil_propose(size_t k, const uint64_t *forbidden, size_t forbidden_length);
+
+/* Writes a hull's equations as rows of `width` words over the atoms named, from row `first` on, with their constants. False, and nothing
+   written, unless the rows hold (first + count) * width words, the constants first + count bytes, every name is below width * 64 and
+   the count is at most 8. */
+bool worzubil_write(worzubil_hull hull, const size_t *names, size_t names_length, size_t width, uint64_t *rows, size_t rows_length,
+                    uint8_t *constants, size_t constants_length, size_t first);
+
+#ifdef __cplusplus
+}
+#endif
+
+#endif

@@ -1,0 +1,265 @@
+/* Every export of include/worzubil.h beside plain loops over single bits, on fit and unfit buffers.
+ * A lent buffer stands between canary words: after each call all of its cells are compared. Seeded; one argument sets the rounds. */
+#include <stdio.h>
+#include <stdlib.h>
+
+#include "worzubil.h"
+
+enum { GUARD = 4, MOST = 64 };
+#define CANARY 0xa5c35a3c96f01e87u
+#define TOO_MANY ((size_t)1 << 58)
+
+/* A lent buffer, and what it must hold. */
+typedef struct {
+    uint64_t cells[GUARD + MOST + GUARD];
+    uint64_t want[MOST];
+    size_t n;
+} lent;
+
+typedef struct {
+    uint8_t cells[GUARD + MOST + GUARD];
+    uint8_t want[MOST];
+    size_t n;
+} lent_bytes;
+
+static lent left, right, rows, mask, basis;
+static lent_bytes constants;
+static unsigned long checks, round_number;
+static uint64_t state = 0x9e3779b97f4a7c15u;
+
+static uint64_t any(void) {
+    state ^= state << 13;
+    state ^= state >> 7;
+    state ^= state << 17;
+    return state * 0x2545f4914f6cdd1du;
+}
+
+static size_t below(size_t n) { return (size_t)(any() >> 11) % n; }
+
+static uint64_t any_word(void) {
+    switch (below(6)) {
+    case 0: return 0;
+    case 1: return ~(uint64_t)0;
+    case 2: return (uint64_t)1 << below(64);
+    case 3: return any() & any() & any();
+    default: return any();
+    }
+}
+
+/* A number below n or a little past it, or one that no buffer reaches. */
+static size_t around(size_t n) {
+    switch (below(12)) {
+    case 0: return (size_t)any();
+    case 1: return SIZE_MAX - below(3);
+    case 2: return (size_t)1 << below(64);
+    default: return below(n + 2);
+    }
+}
+
+static void check(const char *call, const char *what, uint64_t want, uint64_t got) {
+    if (want != got) {
+        printf("round %lu, %s: %s should be %llu and is %llu\n", round_number, call, what, (unsigned long long)want,
+               (unsigned long long)got);
+        exit(1);
+    }
+    checks++;
+}
+
+static uint64_t *at(lent *b) { return b->cells + GUARD; }
+
+static void fill(lent *b, size_t n) {
+    b->n = n;
+    for (size_t i = 0; i < GUARD + MOST + GUARD; i++) b->cells[i] = CANARY;
+    for (size_t i = 0; i < n; i++) at(b)[i] = b->want[i] = any_word();
+}
+
+static void held(const char *call, const lent *b) {
+    for (size_t i = 0; i < GUARD + MOST + GUARD; i++)
+        check(call, "a cell", i >= GUARD && i - GUARD < b->n ? b->want[i - GUARD] : CANARY, b->cells[i]);
+}
+
+static void fill_bytes(lent_bytes *b, size_t n) {
+    b->n = n;
+    for (size_t i = 0; i < GUARD + MOST + GUARD; i++) b->cells[i] = (uint8_t)CANARY;
+    for (size_t i = 0; i < n; i++) b->cells[GUARD + i] = b->want[i] = (uint8_t)any();
+}
+
+static void held_bytes(const char *call, const lent_bytes *b) {
+    for (size_t i = 0; i < GUARD + MOST + GUARD; i++)
+        check(call, "a byte", i >= GUARD && i - GUARD < b->n ? b->want[i - GUARD] : (uint8_t)CANARY, b->cells[i]);
+}
+
+static void answered(const char *call, size_t kind, size_t value, worzubil_answer got) {
+    check(call, "the kind", kind, got.kind);
+    check(call, "the value", kind == WORZUBIL_ANSWERED ? value : 0, got.value);
+}
+
+/* ---- plain loops */
+
+static bool bit_of(const uint64_t *words, size_t atom) { return words[atom >> 6] >> (atom & 63) & 1; }
+
+static size_t shared(const uint64_t *a, const uint64_t *b, size_t n) {
+    size_t count = 0;
+    for (size_t i = 0; i < n * 64; i++)
+        if (bit_of(a, i) && bit_of(b, i)) count++;
+    return count;
+}
+
+static size_t lowest(const uint64_t *a, size_t n) {
+    size_t i = 0;
+    while (i < n * 64 && !bit_of(a, i)) i++;
+    return i;
+}
+
+static bool lies_within(size_t words, size_t width, size_t number) {
+    return (unsigned __int128)number * width + width <= words;
+}
+
+/* ---- the calls */
+
+static void one_word(void) {
+    size_t atom = around(640);
+    worzubil_located place = worzubil_locate(atom);
+    check("locate", "the word", atom >> 6, place.word);
+    check("locate", "the bit", (uint64_t)1 << (atom & 63), place.bit);
+
+    uint64_t word = any_word();
+    check("popcount", "the count", shared(&word, &word, 1), worzubil_popcount(word));
+
+    uint64_t rest = word;
+    for (size_t i = 0; i < 64; i++) {
+        if (!bit_of(&word, i)) continue;
+        worzubil_step step = worzubil_next(rest);
+        rest &= ~((uint64_t)1 << i);
+        check("next", "the kind", WORZUBIL_ANSWERED, step.kind);
+        check("next", "the bit", i, step.bit);
+        check("next", "the rest", rest, step.remaining);
+    }
+    worzubil_step end = worzubil_next(rest);
+    check("next at the end", "the kind", WORZUBIL_NOTHING, end.kind);
+    check("next at the end", "the bit", 0, end.bit);
+    check("next at the end", "the rest", 0, end.remaining);
+}
+
+static void asked(void) {
+    size_t n = left.n, atom = around(n * 64);
+    bool same = n == right.n;
+    size_t both = same ? shared(left.want, right.want, n) : 0;
+
+    check("contains", "the answer", atom / 64 < n && bit_of(left.want, atom), worzubil_contains(at(&left), n, atom));
+    answered("is_subset_of", same ? WORZUBIL_ANSWERED : WORZUBIL_UNFIT, both == shared(left.want, left.want, n),
+             worzubil_is_subset_of(at(&left), n, at(&right), right.n));
+    answered("intersection_parity", same ? WORZUBIL_ANSWERED : WORZUBIL_UNFIT, both % 2,
+             worzubil_intersection_parity(at(&left), n, at(&right), right.n));
+    answered("intersection_count", same ? WORZUBIL_ANSWERED : WORZUBIL_UNFIT, both,
+             worzubil_intersection_count(at(&left), n, at(&right), right.n));
+    answered("count", WORZUBIL_ANSWERED, shared(left.want, left.want, n), worzubil_count(at(&left), n));
+    size_t least = lowest(left.want, n);
+    answered("first", least < n * 64 ? WORZUBIL_ANSWERED : WORZUBIL_NOTHING, least, worzubil_first(at(&left), n));
+    held("a question", &left);
+    held("a question", &right);
+}
+
+static void changed(void) {
+    size_t n = left.n, atom = around(n * 64);
+    bool same = n == right.n;
+
+    if (atom / 64 < n) left.want[atom / 64] |= (uint64_t)1 << (atom % 64);
+    check("insert", "the answer", atom / 64 < n, worzubil_insert(at(&left), n, atom));
+    held("insert", &left);
+
+    for (size_t i = 0; same && i < n * 64; i++)
+        if (bit_of(right.want, i)) left.want[i / 64] |= (uint64_t)1 << (i % 64);
+    check("union_assign", "the answer", same, worzubil_union_assign(at(&left), n, at(&right), right.n));
+    held("union_assign", &left);
+    held("union_assign", &right);
+
+    fill(&left, n);
+    for (size_t i = 0; same && i < n * 64; i++)
+        if (bit_of(right.want, i)) left.want[i / 64] ^= (uint64_t)1 << (i % 64);
+    check("xor_assign", "the answer", same, worzubil_xor_assign(at(&left), n, at(&right), right.n));
+    held("xor_assign", &left);
+    held("xor_assign", &right);
+}
+
+static void of_rows(void) {
+    size_t width = below(10), number = around(6);
+    fill(&rows, below(6) * width + below(4));
+    fill(&mask, below(4) ? width : below(10));
+    if (below(8) == 0) width = around(9);
+    size_t n = rows.n;
+    bool within = lies_within(n, width, number), both = within && width <= mask.n;
+    const uint64_t *row = rows.want + (within ? number * width : 0);
+    size_t common = both ? shared(row, mask.want, width) : 0;
+
+    worzubil_span span = worzubil_row(at(&rows), n, width, number);
+    check("row", "the kind", within ? WORZUBIL_ANSWERED : WORZUBIL_UNFIT, span.kind);
+    check("row", "the start", within ? number * width : 0, span.start);
+    check("row", "the length", within ? width : 0, span.length);
+
+    size_t least = within ? lowest(row, width) : 0;
+    answered("lowest_atom", !within ? WORZUBIL_UNFIT : least < width * 64 ? WORZUBIL_ANSWERED : WORZUBIL_NOTHING, least,
+             worzubil_lowest_atom(at(&rows), n, width, number));
+    answered("overlap_parity", both ? WORZUBIL_ANSWERED : WORZUBIL_UNFIT, common % 2,
+             worzubil_overlap_parity(at(&rows), n, width, number, at(&mask), mask.n));
+    answered("overlap_count", both ? WORZUBIL_ANSWERED : WORZUBIL_UNFIT, common,
+             worzubil_overlap_count(at(&rows), n, width, number, at(&mask), mask.n));
+    held("a question of a row", &rows);
+    held("a question of a row", &mask);
+
+    size_t source = below(4) ? below(4) : around(6);
+    fill_bytes(&constants, below(8));
+    bool fit = source < number && number < constants.n && within;
+    for (size_t i = 0; fit && i < width * 64; i++) {
+        size_t from = source * width * 64 + i, to = number * width * 64 + i;
+        if (bit_of(rows.want, from)) rows.want[to / 64] ^= (uint64_t)1 << (to % 64);
+    }
+    if (fit) constants.want[number] ^= constants.want[source];
+    check("add", "the answer", fit,
+          worzubil_add(at(&rows), n, constants.cells + GUARD, constants.n, width, number, source));
+    held("add", &rows);
+    held_bytes("add", &constants);
+}
+
+static void of_places(void) {
+    size_t atoms = around(640);
+    check("width", "the width", atoms / 64 + (atoms % 64 != 0), worzubil_width(atoms));
+
+    size_t n = basis.n, place = around(n);
+    answered("source_at", place < n ? WORZUBIL_ANSWERED : WORZUBIL_NOTHING, place < n ? basis.want[place] : 0,
+             worzubil_source_at((const size_t *)at(&basis), n, place));
+    held("source_at", &basis);
+}
+
+/* A length that no memory has is refused before a word is read. */
+static void too_wide(void) {
+    fill(&left, 1);
+    answered("first of too many", WORZUBIL_TOO_WIDE, 0, worzubil_first(at(&left), TOO_MANY));
+    answered("count of too many", WORZUBIL_TOO_WIDE, 0, worzubil_count(at(&left), TOO_MANY));
+    answered("intersection_count of too many", WORZUBIL_TOO_WIDE, 0,
+             worzubil_intersection_count(at(&left), TOO_MANY, at(&left), TOO_MANY));
+    answered("lowest_atom of too many", WORZUBIL_UNFIT, 0, worzubil_lowest_atom(at(&left), TOO_MANY, TOO_MANY, 0));
+    answered("overlap_count of too many", WORZUBIL_UNFIT, 0,
+             worzubil_overlap_count(at(&left), TOO_MANY, TOO_MANY, 0, at(&left), TOO_MANY));
+    held("too many", &left);
+}
+
+int main(int argc, char **argv) {
+    unsigned long rounds = argc > 1 ? strtoul(argv[1], NULL, 10) : 20000;
+    for (round_number = 0; round_number < rounds; round_number++) {
+        fill(&left, below(10));
+        fill(&right, below(4) ? left.n : below(10));
+        /* often a part of the other, so that a subset is met */
+        for (size_t i = 0; i < left.n && i < right.n && round_number % 3 == 0; i++)
+            at(&right)[i] = right.want[i] = left.want[i] | right.want[i];
+        fill(&basis, below(10));
+        one_word();
+        asked();
+        changed();
+        of_rows();
+        of_places();
+    }
+    too_wide();
+    printf("%lu checks passed\n", checks);
+    return 0;
+}
