@@ -1,5 +1,5 @@
 -- The equations as `list` files them: those found so far, then blanks.
-use Prim.Native.Nat.{ℕ, suc, _+_, _-_, _%_, _^_, _≤_, _<_}
+use Prim.Native.Nat.{ℕ, _+_, _-_, _%_, _^_, _≤_, _<_}
 use mathlib.Core.Path.{_≡_, refl, sym, ap, ap₂, _∙_}
 use mathlib.Core.List.{List, [], _∷_, _++_, append-nil}
 use native.Mathlib.Nat.{sub-zero}
@@ -14,20 +14,20 @@ use lib.Seq.{set-append-seam, append-snoc}
 use Rattle.hull.specs.Propose.{limit, blank, padded}
 use Rattle.hull.specs.Steps.{reach, within, listed}
 use Rattle.hull.specs.declared.LocalEquation.{LocalEquation}
+use Rattle.hull.proofs.Turns.{left-more}
 
 padded-next : (most : ℕ) (l : List LocalEquation) (v : LocalEquation) → length l < most
     → set (padded most l) (length l) v ≡ padded most (l ++ (v ∷ []))
 padded-next most l v h =
-    let more : most - length l ≡ suc (most - (length l + 1)) = omega arith in
-    ap (λ n. set (l ++ replicate n blank) (length l) v) more
+    ap (λ n. set (l ++ replicate n blank) (length l) v) (left-more most (length l) h)
     ∙ set-append-seam l blank (replicate (most - (length l + 1)) blank) v
     ∙ sym (append-snoc l v (replicate (most - (length l + 1)) blank))
     ∙ ap (λ n. (l ++ (v ∷ [])) ++ replicate (most - n) blank) (sym (length-append l (v ∷ [])))
 
-module _ (anchor : ℕ) (ps : List ℕ) (k free : ℕ) where
-  -- before position `free` there are n equations
-  abbrev pub Filed : ℕ → List LocalEquation → Type 0
-  Filed n es = (done : List LocalEquation) × (n ≡ length done) × (es ≡ padded limit done) × (done ++ listed anchor ps (k - free) free ≡ listed anchor ps k 0)
+-- before position `free` there are n equations
+abbrev pub Filed : ℕ → List ℕ → ℕ → ℕ → ℕ → List LocalEquation → Type 0
+Filed anchor ps k free n es =
+    (done : List LocalEquation) × (n ≡ length done) × (es ≡ padded limit done) × (done ++ listed anchor ps (k - free) free ≡ listed anchor ps k 0)
 
 module _ (anchor : ℕ) (ps : List ℕ) (k : ℕ) where
   pub filed-start : Filed anchor ps k 0 0 (replicate limit blank)
@@ -37,8 +37,7 @@ module _ (anchor : ℕ) (ps : List ℕ) (k : ℕ) where
     pub filed-skip : {m : ℕ} {ds : List LocalEquation} → free < k → (getD ps free 0 ≡ 0 → ⊥) → ds ≡ es → m ≡ n → Filed anchor ps k (free + 1) m ds
     unfolding listed
     filed-skip h z e g =
-        let more : k - free ≡ suc (k - (free + 1)) = omega arith in
-        let rest : listed anchor ps (k - free) free ≡ listed anchor ps (k - (free + 1)) (free + 1) = rw (more, add-one free) (rw (ne-eqb _ _ z)) in
+        let rest : listed anchor ps (k - free) free ≡ listed anchor ps (k - (free + 1)) (free + 1) = rw (left-more k free h, add-one free) (rw (ne-eqb _ _ z)) in
         (f .0, g ∙ f .1, e ∙ f .2, ap (λ l. f .0 ++ l) (sym rest) ∙ f .3)
 
     pub filed-add : {m c q : ℕ} {ds : List LocalEquation} → free < k → n < limit → getD ps free 0 ≡ 0
@@ -47,9 +46,8 @@ module _ (anchor : ℕ) (ps : List ℕ) (k : ℕ) where
     unfolding listed
     filed-add {c = c} h l z u w e g =
         let v = within anchor c in
-        let more : k - free ≡ suc (k - (free + 1)) = omega arith in
         let rest : listed anchor ps (k - free) free ≡ within anchor (reach ps free (2 ^ free)) ∷ listed anchor ps (k - (free + 1)) (free + 1) =
-        rw (more, add-one free) (rw (eq-eqb _ _ z)) in
+        rw (left-more k free h, add-one free) (rw (eq-eqb _ _ z)) in
         let fits : length (f .0) < limit = omega arith in
         let tail = listed anchor ps (k - (free + 1)) (free + 1) in (
           f .0 ++ (v ∷ []),

@@ -24,19 +24,23 @@ bit-shl n j h = shl-exact 1 j 8 (mod-lt n (zero-lt-suc 1)) (omega arith)
 pub one-shl : (w j : ℕ) → j < w → 1 * 2 ^ j % 2 ^ w ≡ 2 ^ j
 one-shl w j h = shl-exact {a = 1} 1 j w (omega arith) (omega arith) ∙ one-mul _
 
+-- what is left before a turn
+pub left-more : (n i : ℕ) → i < n → n - i ≡ suc (n - (i + 1))
+left-more n i h = omega arith
+
 module _ (k j : ℕ) (ps : List ℕ) (d : ℕ) (h : j < k) where
   pub enters-set : bitAnd (d / 2 ^ j) 1 ≡ 1 → getD ps j 0 ≡ 0 → entered (k - j) j ps d ≡ (set ps j d, 1)
   unfolding entered
-  enters-set b z = let e : k - j ≡ suc (k - (j + 1)) = omega arith in rw e (rw (eq-eqb _ _ b, eq-eqb _ _ z))
+  enters-set b z = rw (left-more k j h) (rw (eq-eqb _ _ b, eq-eqb _ _ z))
 
   pub enters-add : bitAnd (d / 2 ^ j) 1 ≡ 1 → (getD ps j 0 ≡ 0 → ⊥)
       → entered (k - j) j ps d ≡ entered (k - (j + 1)) (j + 1) ps (bitXor d (getD ps j 0))
   unfolding entered
-  enters-add b z = let e : k - j ≡ suc (k - (j + 1)) = omega arith in rw (e, add-one j) (rw (eq-eqb _ _ b, ne-eqb _ _ z))
+  enters-add b z = rw (left-more k j h, add-one j) (rw (eq-eqb _ _ b, ne-eqb _ _ z))
 
   pub enters-skip : (bitAnd (d / 2 ^ j) 1 ≡ 1 → ⊥) → entered (k - j) j ps d ≡ entered (k - (j + 1)) (j + 1) ps d
   unfolding entered
-  enters-skip b = let e : k - j ≡ suc (k - (j + 1)) = omega arith in rw (e, add-one j) (rw (ne-eqb _ _ b))
+  enters-skip b = rw (left-more k j h, add-one j) (rw (ne-eqb _ _ b))
 
 pub enters-none : (k j : ℕ) (ps : List ℕ) (d : ℕ) → k ≤ j → entered (k - j) j ps d ≡ (ps, 0)
 unfolding entered
@@ -72,26 +76,26 @@ few-seen k p s f = go (eqb (s .allowed) 0) (entered k 0 (s .pivots) (bitXor (s .
 module _ (k : ℕ) (ws : List ℕ) (n p : ℕ) (h : p < n) where
   pub span-skip : (s : Basis) → forbids ws p ≡ true → spanFrom k ws (n - p) p s ≡ spanFrom k ws (n - (p + 1)) (p + 1) s
   unfolding spanFrom
-  span-skip s b = let e : n - p ≡ suc (n - (p + 1)) = omega arith in rw (e, add-one p) (rw b)
+  span-skip s b = rw (left-more n p h, add-one p) (rw b)
 
   pub span-next : (s : Basis) → forbids ws p ≡ false → (seen k p s .rank ≡ k → ⊥)
       → spanFrom k ws (n - p) p s ≡ spanFrom k ws (n - (p + 1)) (p + 1) (seen k p s)
   unfolding spanFrom
-  span-next s b r = let e : n - p ≡ suc (n - (p + 1)) = omega arith in rw (e, add-one p) (rw (b, ne-eqb _ _ r))
+  span-next s b r = rw (left-more n p h, add-one p) (rw (b, ne-eqb _ _ r))
 
   pub span-full : (s : Basis) → forbids ws p ≡ false → seen k p s .rank ≡ k
       → spanFrom k ws (n - p) p s ≡ counting (length (allowedFrom (forbids ws) k (n - (p + 1)) (p + 1))) (seen k p s)
   unfolding spanFrom
-  span-full s b r = let e : n - p ≡ suc (n - (p + 1)) = omega arith in rw (e, add-one p) (rw (b, eq-eqb _ _ r))
+  span-full s b r = rw (left-more n p h, add-one p) (rw (b, eq-eqb _ _ r))
 
   pub count-skip : forbids ws p ≡ true → allowedFrom (forbids ws) k (n - p) p ≡ allowedFrom (forbids ws) k (n - (p + 1)) (p + 1)
   unfolding allowedFrom
-  count-skip b = let e : n - p ≡ suc (n - (p + 1)) = omega arith in rw (e, add-one p) (rw b)
+  count-skip b = rw (left-more n p h, add-one p) (rw b)
 
   pub count-next : forbids ws p ≡ false
       → length (allowedFrom (forbids ws) k (n - p) p) ≡ suc (length (allowedFrom (forbids ws) k (n - (p + 1)) (p + 1)))
   unfolding allowedFrom
-  count-next b = let e : n - p ≡ suc (n - (p + 1)) = omega arith in rw (e, add-one p) (rw b)
+  count-next b = rw (left-more n p h, add-one p) (rw b)
 
 pub count-le : (f : ℕ → Bool) (k n p : ℕ) → length (allowedFrom f k n p) ≤ n
 unfolding allowedFrom

@@ -5,10 +5,9 @@ ghost use Prim.Native.Nat.{_/_, _%_, _^_, _-_, _≤_, _<_};
 ghost use mathlib.Core.List.{[]};
 ghost use lib.ListN.{length};
 ghost use lib.Count.{ones};
-ghost use Rattle.words.specs.Set.{setOf, has};
 ghost use Rattle.hull.specs.Table.{forbids, allowedFrom};
-ghost use Rattle.hull.specs.Propose.{limit, tableWords, told, refused, proposalOf};
 ghost use Rattle.hull.specs.Equations.{hullFrom};
+ghost use Rattle.hull.specs.Propose.{limit, tableWords, told, refused, proposalOf};
 ghost use Rattle.hull.specs.Steps.{entered, seen, spanned, reach, listing};
 
 pub mod promises;
@@ -41,7 +40,7 @@ pub struct Proposal {
     pub hull: Hull,
 }
 
-// The least-bit echelon of the differences from the anchor, and how many patterns were allowed: none so far, and there is no anchor.
+// The least-bit echelon of the differences from the anchor, and how many patterns were allowed; at 0 there is no anchor yet.
 struct Basis {
     pivots: [u8; 8],
     rank: usize,
@@ -51,7 +50,7 @@ struct Basis {
 
 fn is_forbidden(forbidden: &[u64], pattern: usize) -> bool
     requires { ⌜ pattern / 64 < length (now forbidden) ⌝ }
-    ensures { λ r. ⌜ r ≡ has (setOf (now (forbidden .entry))) pattern ⌝ }
+    ensures { λ r. ⌜ r ≡ forbids (now (forbidden .entry)) pattern ⌝ }
 {
     forbidden[pattern / 64] & (1 << (pattern % 64)) != 0
 }
@@ -194,6 +193,7 @@ fn list(s: Basis, k: usize) -> Hull
     }
 }
 
+// A refused call: its number, and 0 in every other field.
 fn unfit() -> Proposal
     ensures { λ r. ⌜ r ≡ refused limit 17 ⌝ }
 {

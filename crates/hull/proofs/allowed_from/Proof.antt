@@ -14,7 +14,7 @@ use Rattle.hull.proofs.allowed_from.Tie as tie
 
 abbrev Inv-loop : tie.InvT-loop
 Inv-loop k forbidden first patterns count₀ pattern₀ count pattern =
-    (pattern ≤ 2 ^ k) × (patterns ≡ 2 ^ k) × (count ≤ pattern)
+    (pattern ≤ 2 ^ k) × (patterns ≡ 2 ^ k)
     × (count + length (allowedFrom (forbids forbidden) k (2 ^ k - pattern) pattern) ≡ length (allowedFrom (forbids forbidden) k (2 ^ k - first) first))
 
 abbrev μ-loop : tie.MeasureT-loop
@@ -24,13 +24,16 @@ shl-patterns : tie.Need-shl-patterns Inv-loop μ-loop
 shl-patterns c = search needs
 
 loop-holds : tie.Need-loop-holds Inv-loop μ-loop
-loop-holds c = (c .before .pre .2, one-shl 64 _ (omega arith), omega arith, omega arith)
+loop-holds c = (omega arith, one-shl 64 _ (omega arith), omega arith)
 
 is-forbidden-requires : tie.Need-is-forbidden-requires Inv-loop μ-loop
 is-forbidden-requires c κs = omega arith
 
 add-count : tie.Need-add-count Inv-loop μ-loop
-add-count c = omega (arith, pow-mono {j = 8} (c .before .before .before .before .before .pre .0))
+add-count c =
+    let start = c .before .before .before .before .before in
+    let a = start .args in
+    omega (arith, count-le (forbids (a .forbidden .now)) (a .k) (2 ^ a .k - a .first) (a .first), pow-mono {j = 8} (start .pre .0))
 
 add-pattern : tie.Need-add-pattern Inv-loop μ-loop
 add-pattern c = omega (arith, pow-mono {j = 8} (c .before .before .before .before .before .pre .0))
@@ -48,7 +51,6 @@ loop-again c =
     let asked = c .before .is-forbidden .ensures in (
       omega arith,
       omega arith,
-      ⊎-elim (λ w. omega (arith, w .1)) (λ w. omega (arith, w .1)) (c .if1 .came),
       ⊎-elim
           (λ w. omega (arith, w .1, count-next (a .k) ws (2 ^ a .k) p here (sym asked ∙ not-true _ (w .0 .taken))))
           (λ w. omega (arith, w .1, ap length (count-skip (a .k) ws (2 ^ a .k) p here (sym asked ∙ not-false _ (w .0 .left)))))

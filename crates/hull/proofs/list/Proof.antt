@@ -12,13 +12,13 @@ use Rattle.hull.proofs.list.Statement.{statement}
 use Rattle.hull.proofs.list.Tie as tie
 
 abbrev Inv-loop : tie.InvT-loop
-Inv-loop s k pivots anchor equations₀ count₀ free₀ equations count free = (free ≤ k) × (count ≤ free) × Filed anchor pivots k free count equations
+Inv-loop s k pivots anchor equations₀ count₀ free₀ equations count free = (free ≤ k) × Filed anchor pivots k free count equations × (count ≤ free)
 
 abbrev μ-loop : tie.MeasureT-loop
 μ-loop s k pivots anchor equations₀ count₀ free₀ equations count free = k - free
 
 loop-holds : tie.Need-loop-holds Inv-loop μ-loop
-loop-holds c = (omega arith, omega arith, filed-start _ _ _)
+loop-holds c = (omega arith, filed-start _ _ _, omega arith)
 
 array-read-if1 : tie.Need-array-read-if1 Inv-loop μ-loop
 array-read-if1 c = search needs
@@ -48,15 +48,15 @@ loop-again : tie.Need-loop-again Inv-loop μ-loop
 loop-again c =
     let at = c .before .before in
     let a = at .before .before .args in
-    let f = at .loop .inv .2 in
+    let f = at .loop .inv .1 in
     let here = c .before .loop-test .taken in
     let room : at .loop .count < limit = omega arith in (
       omega arith,
-      ⊎-elim (λ w. omega (arith, w .5)) (λ w. omega (arith, w .2)) (c .if1 .came),
       ⊎-elim
           (λ w. filed-add (a .s .anchor) (a .s .pivots) (a .k) _ _ _ f here room (w .0 .taken) (w .2 .ensures) (w .3 .ensures) (w .4) (w .5))
           (λ w. filed-skip (a .s .anchor) (a .s .pivots) (a .k) _ _ _ f here (w .0 .left) (w .1) (w .2))
           (c .if1 .came),
+      ⊎-elim (λ w. omega (arith, w .5)) (λ w. omega (arith, w .2)) (c .if1 .came),
     )
 
 shl-t23 : tie.Need-shl-t23 Inv-loop μ-loop
@@ -66,7 +66,7 @@ returns : tie.Need-returns Inv-loop μ-loop
 returns c =
     let at = c .before .before .before in
     let s = at .before .before .args .s in
-    let all = filed-all (s .anchor) (s .pivots) (at .before .before .args .k) _ _ _ (at .loop .inv .2) (c .before .before .loop-test .left) in
+    let all = filed-all (s .anchor) (s .pivots) (at .before .before .args .k) _ _ _ (at .loop .inv .1) (c .before .before .loop-test .left) in
     let small : s .rank < 64 = omega arith in
     ap (λ n. record { equations = at .loop .equations; count = at .loop .count; exact = eqb (s .allowed) n }) (one-shl 64 (s .rank) small)
     ∙ ap₂ (λ es n. record { equations = es; count = n; exact = eqb (s .allowed) (2 ^ s .rank) }) (all .0) (all .1)
