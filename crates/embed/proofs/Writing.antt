@@ -1,5 +1,5 @@
 -- Equations written one row after another: the turns of `write_rows`.
-use Prim.Native.Nat.{ℕ, suc, _+_, _-_, _*_, _/_, _≤_, _<_}
+use Prim.Native.Nat.{ℕ, suc, _+_, _*_, _/_, _≤_, _<_}
 use mathlib.Core.Path.{_≡_, refl, sym, ap, ap₂, _∙_}
 use mathlib.Core.List.{List, [], _∷_, _++_, append-nil, append-assoc}
 use mathlib.Core.Bool.{Bool, true, false, cond, _&&_, and-eq-true-iff}

@@ -2,3 +2,4 @@
 pub mod Embed
 pub mod Written
 pub mod Promises
+pub mod Settled

@@ -3,5 +3,4 @@ pub mod Table
 pub mod Equations
 pub mod Propose
 pub mod Promises
-pub mod Settled
 pub mod Steps

@@ -1,5 +1,4 @@
 // The theorems of `hull`, each held by the gate as the contract of a function with an empty body; specs/Promises.antt has the statements.
-ghost use Rattle.hull.specs.Settled.{Settled};
 ghost use Rattle.hull.specs.Promises.{SmallestAffine, EverySum, ExactIsSet, ExactIsCount, FreeEquations, TablePivots};
 
 // "the equations are met by just the smallest affine set that holds the allowed patterns"
@@ -12,7 +11,7 @@ pub fn every_sum()
     ensures { λ _. ⌜ EverySum ⌝ }
 {}
 
-// "exact"
+// "exact" is a promise about the patterns, not the count alone.
 pub fn exact_is_set()
     ensures { λ _. ⌜ ExactIsSet ⌝ }
 {}
@@ -29,9 +28,4 @@ pub fn free_equations()
 
 pub fn table_pivots()
     ensures { λ _. ⌜ TablePivots ⌝ }
-{}
-
-// "Marked [t]: proved together as a table with a lone statement over the definitions."
-pub fn settled()
-    ensures { λ _. ⌜ Settled ⌝ }
 {}

@@ -3,10 +3,10 @@ use mathlib.Core.Path.{refl}
 use mathlib.Core.Bool.{xor}
 use Rattle.words.specs.Set.{packed}
 use Rattle.rows.specs.Flat.{atomsOf, maskOf}
 use Rattle.hull.specs.Table.{allowedFrom, allowed}
 use Rattle.hull.specs.Equations.{enter, pivotsFrom, hullFrom, hullOf}
-use Rattle.hull.proofs.promises.settled.Statement.{statement}
-use Rattle.hull.proofs.promises.settled.Tie as tie
+use Rattle.embed.proofs.promises.settled.Statement.{statement}
+use Rattle.embed.proofs.promises.settled.Tie as tie
 
 returns : tie.Need-returns
 unfolding xor packed atomsOf maskOf allowedFrom allowed enter pivotsFrom hullFrom hullOf
