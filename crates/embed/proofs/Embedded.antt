@@ -11,12 +11,8 @@ use Rattle.rows.specs.Row.{Row, Assignment, overlap, meetsAll}
 use Rattle.hull.specs.Equations.{zeros, hullOf}
 use Rattle.embed.specs.Embed.{Rising, named, spread, rowOver}
 use Rattle.embed.specs.Promises.{TableIsRows}
+use Rattle.hull.proofs.Dot.{overlap-zeros}
 use Rattle.hull.proofs.Exact.{exact-is-set}
-
-overlap-zeros : (n : ℕ) (x : List Bool) → overlap (zeros n) x ≡ 0
-overlap-zeros zero x = refl
-overlap-zeros (suc n) [] = refl
-overlap-zeros (suc n) (v ∷ x) = overlap-zeros n x
 
 -- one atom more
 overlap-set : (r x : List Bool) (a : ℕ) → a < length r → getD r a false ≡ false

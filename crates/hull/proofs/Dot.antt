@@ -36,7 +36,7 @@ dot-plus r s x = ap (λ (d : ℕ). eqb d 1) (overlap-plus r s x) ∙ odd-sum (ov
 pub dot-sum : (c x y : List Bool) → dot c (plus x y) ≡ xor (dot c x) (dot c y)
 dot-sum c x y = dot-comm c (plus x y) ∙ dot-plus x y c ∙ ap₂ xor (dot-comm x c) (dot-comm y c)
 
-overlap-zeros : (n : ℕ) (x : List Bool) → overlap (zeros n) x ≡ 0
+pub overlap-zeros : (n : ℕ) (x : List Bool) → overlap (zeros n) x ≡ 0
 overlap-zeros zero x = refl
 overlap-zeros (suc n) [] = refl
 overlap-zeros (suc n) (v ∷ x) = overlap-zeros n x

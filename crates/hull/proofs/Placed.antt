@@ -63,14 +63,6 @@ rank-enter (some t ∷ ss) (false ∷ x) = omega (arith, rank-enter ss x)
 rank-enter (none ∷ ss) (true ∷ x) = omega arith
 rank-enter (some t ∷ ss) (true ∷ x) = omega (arith, rank-enter ss (plus x t))
 
-pub length-enter : (ss : Pivots) (x : List Bool) → length (enter ss x) ≡ length ss
-unfolding enter
-length-enter [] x = refl
-length-enter (s ∷ ss) [] = refl
-length-enter (s ∷ ss) (false ∷ x) = ap suc (length-enter ss x)
-length-enter (none ∷ ss) (true ∷ x) = refl
-length-enter (some t ∷ ss) (true ∷ x) = ap suc (length-enter ss (plus x t))
-
 pub rank-le : (ss : Pivots) → rank ss ≤ length ss
 rank-le [] = omega arith
 rank-le (none ∷ ss) = omega (arith, rank-le ss)

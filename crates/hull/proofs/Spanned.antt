@@ -20,7 +20,8 @@ use Rattle.hull.specs.Propose.{limit}
 use Rattle.hull.specs.Steps.{entered, seen, counting, spanFrom, spanned}
 use Rattle.hull.specs.declared.Basis.{Basis}
 use Rattle.hull.proofs.Numbers.{mask-plus}
-use Rattle.hull.proofs.Placed.{placed, none-array, came, rank-enter, length-enter, rank-le, enter-full, plus-long, entered-placed}
+use Rattle.hull.proofs.Placed.{placed, none-array, came, rank-enter, rank-le, enter-full, plus-long, entered-placed}
+use Rattle.hull.proofs.Spans.{length-enter}
 
 -- the array of k positions
 abbrev pub array : ℕ → Pivots → List ℕ
