@@ -8,10 +8,11 @@ use lib.ListN.{length, getD, set, length-set, length-replicate}
 use lib.Seq.{getD-set-other}
 use Rattle.words.specs.Set.{odd}
 use Rattle.rows.specs.Row.{Row, Assignment, overlap, meetsAll}
-use Rattle.hull.specs.Equations.{zeros, hullOf}
+use Rattle.hull.specs.Equations.{hullOf}
 use Rattle.embed.specs.Embed.{Rising, named, spread, rowOver}
 use Rattle.embed.specs.Promises.{TableIsRows}
 use Rattle.hull.proofs.Dot.{overlap-zeros}
+use Rattle.hull.proofs.Only.{getD-zeros}
 use Rattle.hull.proofs.Exact.{exact-is-set}
 
 -- one atom more
@@ -36,15 +37,10 @@ spread-length n (a ∷ names) [] = length-replicate n false
 spread-length n (a ∷ names) (true ∷ c) = length-set (spread n names c) a true ∙ spread-length n names c
 spread-length n (a ∷ names) (false ∷ c) = spread-length n names c
 
-pub zeros-clear : (n a : ℕ) → getD (zeros n) a false ≡ false
-zeros-clear zero a = refl
-zeros-clear (suc n) zero = refl
-zeros-clear (suc n) (suc a) = zeros-clear n a
-
 -- atoms below the first one named are clear
 spread-clear : (n from : ℕ) (names : List ℕ) (c : List Bool) → Rising from n names → (a : ℕ) → a < from → getD (spread n names c) a false ≡ false
-spread-clear n from [] c r a h = zeros-clear n a
-spread-clear n from (b ∷ names) [] r a h = zeros-clear n a
+spread-clear n from [] c r a h = getD-zeros n a
+spread-clear n from (b ∷ names) [] r a h = getD-zeros n a
 spread-clear n from (b ∷ names) (true ∷ c) r a h =
     let ne : a ≡ b → ⊥ = λ e. omega (arith, r .0) in
     getD-set-other (spread n names c) b a true false ne ∙ spread-clear n (suc b) names c (r .2) a (omega (arith, r .0))

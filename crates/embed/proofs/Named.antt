@@ -16,10 +16,11 @@ use Rattle.rows.specs.Flat.{row, rowAt, atomsOf}
 use Rattle.rows.proofs.Digits.{atoms-has, atoms-length}
 use Rattle.embed.specs.Embed.{Rising, spread}
 use Rattle.hull.specs.Propose.{blank}
+use Rattle.hull.proofs.Only.{getD-zeros}
 use Rattle.embed.specs.Written.{marked, rowWords, oneIf, constantsOf, writtenWords, writtenConstants}
 use Rattle.hull.specs.declared.LocalEquation.{LocalEquation}
 use Rattle.embed.specs.Promises.{WriteEmbeds}
-use Rattle.embed.proofs.Embedded.{spread-length, zeros-clear}
+use Rattle.embed.proofs.Embedded.{spread-length}
 use Rattle.embed.proofs.Writing.{inserted-length, marked-length}
 
 -- ---- which atoms are set
@@ -59,7 +60,7 @@ has-marked w (b ∷ names) c ws a e h =
 getD-spread : (n : ℕ) (names : List ℕ) (c a : ℕ) → a < n → Below n names
     → getD (spread n names (atomsOf (length names) c)) a false ≡ namedBy names c a
 unfolding atomsOf
-getD-spread n [] c a l h = zeros-clear n a
+getD-spread n [] c a l h = getD-zeros n a
 getD-spread n (b ∷ names) c a l h = either (odd c) (getD-spread n names (c / 2) a l (h .1))
   where
     rest : List Bool

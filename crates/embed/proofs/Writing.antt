@@ -1,12 +1,12 @@
 -- Equations written one row after another: the turns of `write_rows`.
 use Prim.Native.Nat.{ℕ, suc, _+_, _*_, _/_, _≤_, _<_}
 use mathlib.Core.Path.{_≡_, refl, sym, ap, ap₂, _∙_}
-use mathlib.Core.List.{List, [], _∷_, _++_, append-nil, append-assoc}
+use mathlib.Core.List.{List, [], _∷_, _++_, append-nil, append-assoc, map-append}
 use mathlib.Core.Bool.{Bool, true, false, cond, _&&_, and-eq-true-iff}
-use native.Mathlib.Nat.{suc-mul, zero-mul, add-zero, add-mul, mul-le-mul-right, le-div-iff-mul-le, div-lt-iff-lt-mul}
+use native.Mathlib.Nat.{suc-mul, zero-mul, add-zero, add-mul, mul-le-mul-right}
 use native.Mathlib.Numerals.{add-one}
 use native.Mathlib.Omega.{arith}
-use borrow.Author.Tests.{le-leb, lt-leb, leb-true, leb-false}
+use borrow.Author.Tests.{leb-true}
 use lib.Dec.{leb}
 use lib.ListN.{length, take, drop, set, replicate, length-append, length-replicate, length-set, take-append-drop, length-map}
 use lib.Seq.{length-take-le, drop-drop, take-at, drop-at, set-split}
@@ -47,8 +47,7 @@ rowWords-snoc w names (d ∷ es) e =
     ∙ sym (append-assoc one (rowWords w names es) (marked names (e .coefficients) (replicate w 0)))
 
 constants-snoc : (es : List LocalEquation) (e : LocalEquation) → constantsOf (es ++ (e ∷ [])) ≡ constantsOf es ++ (oneIf (e .constant) ∷ [])
-constants-snoc [] e = refl
-constants-snoc (d ∷ es) e = ap (λ (l : List ℕ). oneIf (d .constant) ∷ l) (constants-snoc es e)
+constants-snoc es e = map-append (λ (d : LocalEquation). oneIf (d .constant)) es (e ∷ [])
 
 -- ---- a part written over a list: what was written before it, and what is left after
 
@@ -157,13 +156,6 @@ pub row-room : (f m n w : ℕ) → m < n → (f + m) * w + w ≤ (f + n) * w
 row-room f m n w h =
     let le : suc (f + m) ≤ f + n = omega arith in
     omega (arith, suc-mul (f + m) w, mul-le-mul-right w le)
-
-pub rows-room : (r w n : ℕ) → 0 < w → leb r (n / w) ≡ leb (r * w) n
-rows-room r w n h = go (leb r (n / w)) refl
-  where
-    go : (t : Bool) → leb r (n / w) ≡ t → t ≡ leb (r * w) n
-    go true e = sym (le-leb (r * w) n (le-div-iff-mul-le h .0 (leb-true r (n / w) e)))
-    go false e = sym (lt-leb (r * w) n (div-lt-iff-lt-mul h .0 (leb-false r (n / w) e)))
 
 -- what the tests of `write` tell
 pub record CanWrite (n c w count f : ℕ) : Type 0 where

@@ -1,4 +1,4 @@
-// The calls of `hull` for C.
+// The calls of `hull` and `embed` for C.
 use hull::Hull;
 use hull::Proposal;
 use rows::Source;

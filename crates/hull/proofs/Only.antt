@@ -24,7 +24,7 @@ getD-map f [] m l = let no : ⊥ = omega arith in absurd no
 getD-map f (c ∷ cs) zero l = refl
 getD-map f (c ∷ cs) (suc m) l = getD-map f cs m (le-of-suc-le-suc l)
 
-getD-zeros : (n j : ℕ) → getD (zeros n) j false ≡ false
+pub getD-zeros : (n j : ℕ) → getD (zeros n) j false ≡ false
 getD-zeros zero j = refl
 getD-zeros (suc n) zero = refl
 getD-zeros (suc n) (suc j) = getD-zeros n j

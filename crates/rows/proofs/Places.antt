@@ -1,11 +1,11 @@
 -- Where a row lies in flat words: inside them or not, and its words.
 use Prim.Native.Nat.{ℕ, suc, _+_, _*_, _/_, _≤_, _<_}
-use mathlib.Core.Path.{_≡_, refl, sym, ap}
+use mathlib.Core.Path.{_≡_, refl, sym, ap, _∙_}
 use mathlib.Core.List.{List, []}
 use mathlib.Core.Bool.{Bool, true, false, cond}
 use native.Mathlib.Nat.{suc-mul, mul-zero, le-div-iff-mul-le, div-lt-iff-lt-mul}
 use native.Mathlib.Omega.{arith}
-use borrow.Author.Tests.{le-leb, lt-leb, leb-true, ltb-true, ltb-false}
+use borrow.Author.Tests.{le-leb, lt-leb, leb-true, leb-false}
 use lib.ListN.{length, length-take, length-drop}
 use lib.Dec.{leb, ltb}
 use Rattle.rows.specs.Flat.{row}
@@ -15,16 +15,16 @@ use Rattle.rows.specs.declared.Source.{Source}
 pub within-none : (w r n : ℕ) → w ≡ 0 → leb (r * w + w) n ≡ true
 within-none w r n e = le-leb (r * w + w) n (omega (arith, ap (λ (k : ℕ). r * k) e, mul-zero r))
 
-pub within-div : (w r n : ℕ) → 0 < w → ltb r (n / w) ≡ leb (r * w + w) n
-within-div w r n h = go (ltb r (n / w)) refl
+-- r rows lie within n words, and so does row r
+pub rows-within : (w r n : ℕ) → 0 < w → leb r (n / w) ≡ leb (r * w) n
+rows-within w r n h = go (leb r (n / w)) refl
   where
-    go : (t : Bool) → ltb r (n / w) ≡ t → t ≡ leb (r * w + w) n
-    go true e =
-        let le : suc r ≤ n / w = omega (arith, ltb-true r (n / w) e) in
-        sym (le-leb (r * w + w) n (omega (arith, suc-mul r w, le-div-iff-mul-le h .0 le)))
-    go false e =
-        let lt : n / w < suc r = omega (arith, ltb-false r (n / w) e) in
-        sym (lt-leb (r * w + w) n (omega (arith, suc-mul r w, div-lt-iff-lt-mul h .0 lt)))
+    go : (t : Bool) → leb r (n / w) ≡ t → t ≡ leb (r * w) n
+    go true e = sym (le-leb (r * w) n (le-div-iff-mul-le h .0 (leb-true r (n / w) e)))
+    go false e = sym (lt-leb (r * w) n (div-lt-iff-lt-mul h .0 (leb-false r (n / w) e)))
+
+pub within-div : (w r n : ℕ) → 0 < w → ltb r (n / w) ≡ leb (r * w + w) n
+within-div w r n h = rows-within w (suc r) n h ∙ ap (λ (k : ℕ). leb k n) (suc-mul r w)
 
 -- ---- a row's words
 

@@ -4,7 +4,7 @@ use mathlib.Core.Path.{ap}
 use native.Mathlib.Nat.{mul-zero}
 use native.Mathlib.Omega.{arith}
 use borrow.Author.Tests.{le-leb, lt-leb}
-use Rattle.embed.proofs.Writing.{rows-room}
+use Rattle.rows.proofs.Places.{rows-within}
 use borrow.Author.Needs.{needs}
 use Rattle.embed.proofs.can_write.Statement.{statement}
 use Rattle.embed.proofs.can_write.Tie as tie
@@ -42,7 +42,7 @@ returns-5 c =
     let a = c .before .before .before .before .args in
     let room : a .first .0 + a .count ≤ a .constants = omega arith in
     let some : 0 < a .width = omega arith in
-    simp (le-leb _ _ (c .before .before .before .if1 .left), le-leb _ _ room) (rows-room (a .first .0 + a .count) (a .width) (a .words) some)
+    simp (le-leb _ _ (c .before .before .before .if1 .left), le-leb _ _ room) (rows-within (a .width) (a .first .0 + a .count) (a .words) some)
 
 pub can-write-spec : {M : Type 1} → statement M
 can-write-spec =
