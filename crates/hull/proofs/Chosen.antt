@@ -7,10 +7,10 @@ use mathlib.Core.Bool.{Bool, true, false, cond, xor}
 use mathlib.Core.Option.{none, some}
 use native.Mathlib.Omega.{arith}
 use lib.ListN.{length, replicate}
-use Rattle.rows.specs.Row.{Row, plus, add, meets}
+use Rattle.rows.specs.Row.{Row, plus, add, meets, sumOf}
 use Rattle.hull.specs.Table.{Pattern, allowed, allows}
 use Rattle.hull.specs.Equations.{Pivots, pivotsFrom, equations, through, zeros, hullFrom, hullOf}
-use Rattle.hull.specs.Promises.{Sized, sumOf, EverySum}
+use Rattle.hull.specs.Promises.{Sized, EverySum}
 use Rattle.hull.proofs.Sums.{xor-self, xor-same, plus-zeros}
 use Rattle.hull.proofs.Dot.{dot, dot-plus, dot-sum, dot-zeros, dot-on, dot-off, dot-met}
 use Rattle.hull.proofs.Spans.{Each}

@@ -3,11 +3,11 @@ use Prim.Native.Nat.{ℕ, suc, _-_, _^_, _<_}
 use mathlib.Core.Path.{_≡_}
 use mathlib.Core.Logic.{_↔_}
 use mathlib.Core.List.{List, [], _∷_, _++_}
-use mathlib.Core.Bool.{Bool, true, false, cond}
+use mathlib.Core.Bool.{Bool, true, false}
 use mathlib.Core.Option.{none, some}
 use lib.ListN.{length, getD, replicate}
 use Rattle.words.specs.Set.{odd}
-use Rattle.rows.specs.Row.{Row, overlap, meets, meetsAll, plus, add}
+use Rattle.rows.specs.Row.{Row, overlap, meets, meetsAll, plus, sumOf}
 use Rattle.rows.specs.Count.{count}
 use Rattle.hull.specs.Table.{Pattern, allowed, allows}
 use Rattle.hull.specs.Equations.{Pivots, equations, zeros, pivotsFrom, hullOf}
@@ -25,12 +25,6 @@ Holds k words A = (x : Pattern) → length x ≡ k → allows words x ≡ true �
 abbrev pub SmallestAffine : Type 0
 SmallestAffine = (k : ℕ) (words : List ℕ) (x : Pattern) → length x ≡ k
     → (meetsAll (hullOf k words .rows) x ≡ true) ↔ ((A : Pattern → Bool) → Affine k A → Holds k words A → A x ≡ true)
-
--- The sum of the rows chosen, over n atoms.
-abbrev pub sumOf : ℕ → List Bool → List Row → Row
-sumOf n [] rs = record { atoms = zeros n; constant = false }
-sumOf n (b ∷ bs) [] = record { atoms = zeros n; constant = false }
-sumOf n (b ∷ bs) (r ∷ rs) = cond b (add r (sumOf n bs rs)) (sumOf n bs rs)
 
 -- "where some pattern is allowed every parity equation true on all of them is a sum of these."
 abbrev pub EverySum : Type 0

@@ -9,7 +9,7 @@ use borrow.Author.Tests.{le-leb, lt-leb, leb-true, leb-false}
 use lib.ListN.{length, length-take, length-drop}
 use lib.Dec.{leb, ltb}
 use Rattle.rows.specs.Flat.{row}
-use Rattle.rows.specs.Calls.{within, rowOf}
+use Rattle.rows.specs.Calls.{within, partOf, rowOf}
 use Rattle.rows.specs.declared.Source.{Source}
 
 pub within-none : (w r n : ℕ) → w ≡ 0 → leb (r * w + w) n ≡ true
@@ -41,7 +41,7 @@ there w ws r true e h = e
 there w ws r false e h = within-none w (r .0) (length ws) (sym h)
 
 pub row-there : (w : ℕ) (ws : List ℕ) (r : Source) → length (rowOf w ws r) ≡ w → There w ws r
-unfolding rowOf
+unfolding partOf
 row-there w ws r h =
     let is = there w ws r (within w ws r) refl h in
     record { is = is; words = ap (λ (t : Bool). cond t (row w ws (r .0)) []) is }
@@ -51,5 +51,5 @@ outside w ws r true e h = absurd (h (row-length w ws (r .0) (leb-true (r .0 * w 
 outside w ws r false e h = e
 
 pub row-outside : (w : ℕ) (ws : List ℕ) (r : Source) → (length (rowOf w ws r) ≡ w → ⊥) → within w ws r ≡ false
-unfolding rowOf
+unfolding partOf
 row-outside w ws r h = outside w ws r (within w ws r) refl h

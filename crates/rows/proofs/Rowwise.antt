@@ -33,7 +33,7 @@ overlap-shared n w ws cs r x h = atoms-overlap n (setOf (row w ws r)) x h
 
 -- ---- the words of a row after another was added to row t
 
-zip-length : (op : ℕ → ℕ → ℕ) (l r : List ℕ) → length l ≡ length r → length (zipWith op l r) ≡ length l
+pub zip-length : (op : ℕ → ℕ → ℕ) (l r : List ℕ) → length l ≡ length r → length (zipWith op l r) ≡ length l
 unfolding zipWith
 zip-length op [] r h = refl
 zip-length op (x ∷ l) [] h = let z : ⊥ = omega arith in absurd z
@@ -97,7 +97,7 @@ module _ (w : ℕ) (ws : List ℕ) (t s : Source) (lt : s .0 < t .0) (fits : t .
   set-target = ap setOf row-target ∙ packed-zip by-xor 64 (row w ws (t .0)) (row w ws (s .0)) (target-length ∙ sym source-length)
 
 -- a constant is 0 or 1
-constant-sum : (a b : ℕ) → a < 2 → b < 2 → eqb (bitXor a b) 1 ≡ xor (eqb a 1) (eqb b 1)
+pub constant-sum : (a b : ℕ) → a < 2 → b < 2 → eqb (bitXor a b) 1 ≡ xor (eqb a 1) (eqb b 1)
 unfolding xor
 constant-sum a b ha hb =
     ap₂ (λ (x y : ℕ). eqb (bitXor x y) 1) (sym (mod-eq-of-lt ha)) (sym (mod-eq-of-lt hb))
@@ -134,7 +134,7 @@ lowest-cases true false x = (
 lowest-cases false e x = ((λ a p. (cc, cc)), (λ p. cc))
 
 -- an atom of a set below 2 ^ n is below n
-has-below : (n x a : ℕ) → x < 2 ^ n → has x a ≡ true → a < n
+pub has-below : (n x a : ℕ) → x < 2 ^ n → has x a ≡ true → a < n
 has-below n x a h e = go (ltb a n) refl
   where
     go : (b : Bool) → ltb a n ≡ b → a < n
@@ -144,7 +144,7 @@ has-below n x a h e = go (ltb a n) refl
         absurd (false≢true (sym none ∙ e))
 
 -- an atom that the set lacks is not in its list, wherever that ends
-atoms-none : (n x b : ℕ) → has x b ≡ false → getD (atomsOf n x) b false ≡ false
+pub atoms-none : (n x b : ℕ) → has x b ≡ false → getD (atomsOf n x) b false ≡ false
 atoms-none n x b e = go (ltb b n) refl
   where
     go : (t : Bool) → ltb b n ≡ t → getD (atomsOf n x) b false ≡ false

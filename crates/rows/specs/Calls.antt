@@ -28,8 +28,12 @@ sourceOf basis place = cond (ltb (place .0) (length basis)) (entry.Names (record
 abbrev pub within : ℕ → List ℕ → Source → Bool
 within w ws r = leb (r .0 * w + w) (length ws)
 
-unfoldable pub rowOf : ℕ → List ℕ → Source → List ℕ
-rowOf w ws r = cond (within w ws r) (row w ws (r .0)) []
+-- The part of w words at place i, the parts counted from 0, or no words where it does not lie within.
+unfoldable pub partOf : ℕ → List ℕ → ℕ → List ℕ
+partOf w ws i = cond (leb (i * w + w) (length ws)) (row w ws i) []
+
+abbrev pub rowOf : ℕ → List ℕ → Source → List ℕ
+rowOf w ws r = partOf w ws (r .0)
 
 -- A row's "lowest atom"; a row of more bits than a usize numbers is not looked at.
 unfoldable pub lowestOf : ℕ → List ℕ → Source → Lowest

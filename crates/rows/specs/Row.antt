@@ -2,7 +2,7 @@
 use Prim.Native.Nat.{ℕ, suc}
 use mathlib.Core.List.{List, [], _∷_}
 use mathlib.Core.Bool.{Bool, true, false, cond, xor, _&&_, Bool·beq}
-use lib.ListN.{getD}
+use lib.ListN.{getD, replicate}
 use Rattle.words.specs.Set.{odd}
 
 -- "An atom is one measure: true means swapped."
@@ -40,3 +40,9 @@ plus (a ∷ r) (b ∷ s) = xor a b ∷ plus r s
 -- "that row is added (XOR, constants too; one addition)"
 abbrev pub add : Row → Row → Row
 add r s = record { atoms = plus (r .atoms) (s .atoms); constant = xor (r .constant) (s .constant) }
+
+-- The sum of the rows chosen, over n atoms.
+abbrev pub sumOf : ℕ → List Bool → List Row → Row
+sumOf n [] rs = record { atoms = replicate n false; constant = false }
+sumOf n (b ∷ bs) [] = record { atoms = replicate n false; constant = false }
+sumOf n (b ∷ bs) (r ∷ rs) = cond b (add r (sumOf n bs rs)) (sumOf n bs rs)

@@ -6,7 +6,7 @@ ghost use Prim.Native.Nat.{_+_, _*_, _≤_, _<_};
 ghost use lib.ListN.{length};
 ghost use lib.Dec.{leb, ltb};
 ghost use Rattle.rows.specs.Flat.{widthOf};
-ghost use Rattle.rows.specs.Calls.{sourceOf, rowOf, lowestOf, overlapParityOf, overlapCountOf, addable, addedWords, addedConstants};
+ghost use Rattle.rows.specs.Calls.{sourceOf, partOf, rowOf, lowestOf, overlapParityOf, overlapCountOf, addable, addedWords, addedConstants};
 
 pub mod promises;
 
@@ -66,27 +66,33 @@ pub fn source_at(basis: &[usize], place: Ordinal) -> Entry
     Entry::Names(Source(basis[at]))
 }
 
-// Whether a row lies within so many words. A quotient cannot wrap, where the row's place could.
-fn lies_within(words: usize, width: usize, row: Source) -> bool
-    ensures { λ r. ⌜ r ≡ leb (row .0 * width + width) words ⌝ }
+// Whether the part of `width` words at a place lies within so many words. A quotient cannot wrap, where the part's place could.
+fn lies_within(words: usize, width: usize, place: usize) -> bool
+    ensures { λ r. ⌜ r ≡ leb (place * width + width) words ⌝ }
 {
     if width == 0 {
         return true;
     }
-    row.0 < words / width
+    place < words / width
+}
+
+// The part of `width` words at a place, the parts counted from 0, or no words where it does not lie within.
+pub fn part(words: &[u64], width: usize, place: usize) -> &[u64]
+    ensures { λ r. ⌜ now r ≡ partOf width (now (words .entry)) place ⌝ }
+{
+    if !lies_within(words.len(), width, place) {
+        return &words[..0];
+    }
+    let start = place * width;
+    let end = start + width;
+    &words[start..end]
 }
 
 // The words of a row, or none where it does not lie within the rows.
 pub fn row(rows: &[u64], width: usize, number: Source) -> &[u64]
     ensures { λ r. ⌜ now r ≡ rowOf width (now (rows .entry)) number ⌝ }
 {
-    if !lies_within(rows.len(), width, number) {
-        return &rows[..0];
-    }
-    let at = number.0;
-    let start = at * width;
-    let end = start + width;
-    &rows[start..end]
+    part(rows, width, number.0)
 }
 
 pub fn lowest_atom(rows: &[u64], width: usize, number: Source) -> Lowest
@@ -149,7 +155,7 @@ fn can_add(words: usize, constants: usize, width: usize, target: Source, source:
     if constants <= target.0 {
         return false;
     }
-    lies_within(words, width, target)
+    lies_within(words, width, target.0)
 }
 
 // Adds the words of an earlier row to a later one.

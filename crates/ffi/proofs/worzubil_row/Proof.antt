@@ -5,7 +5,7 @@ use native.Mathlib.Omega.{arith}
 use borrow.Author.Needs.{needs}
 use borrow.Author.Tests.{leb-true}
 use lib.ListN.{length}
-use Rattle.rows.specs.Calls.{rowOf}
+use Rattle.rows.specs.Calls.{partOf}
 use Rattle.rows.proofs.Places.{There, row-there, row-outside}
 use Rattle.ffi.specs.Answers.{rowNumber, spanOf}
 use Rattle.ffi.proofs.worzubil_row.Statement.{statement}
@@ -15,7 +15,7 @@ row-requires : tie.Need-row-requires
 row-requires c κs = search needs
 
 returns : tie.Need-returns
-unfolding spanOf rowOf
+unfolding spanOf partOf
 returns c =
     let a = c .before .before .before .args in
     let outside =

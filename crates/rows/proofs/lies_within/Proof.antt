@@ -15,9 +15,9 @@ div-result c = search needs
 
 returns-2 : tie.Need-returns-2
 returns-2 c =
-    let a = c .before .before .args in
+    let a = c .before .args in
     let some : 0 < a .width = omega arith in
-    within-div (a .width) (a .row .0) (a .words) some
+    within-div (a .width) (a .place) (a .words) some
 
 pub lies-within-spec : {M : Type 1} → statement M
 lies-within-spec = tie.close (tie.spec returns div-result returns-2)

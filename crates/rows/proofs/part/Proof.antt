@@ -1,4 +1,4 @@
--- `rows::row` meets its contract: where the row lies within, its ends do.
+-- `rows::part` meets its contract: where the part lies within, its ends do.
 use Prim.Native.Nat.{ℕ, _+_, _*_, _≤_}
 use mathlib.Core.Path.{sym, ap, _∙_}
 use mathlib.Core.List.{[]}
@@ -8,10 +8,10 @@ use native.Mathlib.Omega.{arith}
 use borrow.Author.Tests.{leb-true, not-true, not-false}
 use lib.ListN.{length, take, drop}
 use Rattle.rows.specs.Flat.{row}
-use Rattle.rows.specs.Calls.{rowOf}
+use Rattle.rows.specs.Calls.{partOf}
 use borrow.Author.Needs.{needs}
-use Rattle.rows.proofs.row.Statement.{statement}
-use Rattle.rows.proofs.row.Tie as tie
+use Rattle.rows.proofs.part.Statement.{statement}
+use Rattle.rows.proofs.part.Tie as tie
 
 lies-within-requires : tie.Need-lies-within-requires
 lies-within-requires c κs = search needs
@@ -20,16 +20,16 @@ slice-aggregate-result : tie.Need-slice-aggregate-result
 slice-aggregate-result c = search needs
 
 returns : tie.Need-returns
-unfolding rowOf
+unfolding partOf
 returns c =
     let call = c .before .before in
     let a = call .before .before .args in
     let e = sym (call .lies-within .ensures) ∙ not-true _ (c .before .if1 .taken) in
-    sym (ap (λ (t : Bool). cond t (row (a .width) (a .rows .now) (a .number .0)) []) e)
+    sym (ap (λ (t : Bool). cond t (row (a .width) (a .words .now) (a .place)) []) e)
 
 fits : (c : tie.Else1)
-    → c .before .before .before .args .number .0 * c .before .before .before .args .width + c .before .before .before .args .width
-    ≤ length (c .before .before .before .args .rows .now)
+    → c .before .before .before .args .place * c .before .before .before .args .width + c .before .before .before .args .width
+    ≤ length (c .before .before .before .args .words .now)
 fits c = leb-true _ _ (sym (c .before .lies-within .ensures) ∙ not-false _ (c .if1 .left))
 
 mul-start : tie.Need-mul-start
@@ -51,16 +51,16 @@ part-result-end : tie.Need-part-result-end
 part-result-end c = omega (arith, fits c)
 
 returns-2 : tie.Need-returns-2
-unfolding rowOf
+unfolding partOf
 returns-2 c =
     let call = c .before .before in
     let a = call .before .before .args in
     let e = sym (call .lies-within .ensures) ∙ not-false _ (c .before .if1 .left) in
-    ap (λ (k : ℕ). take k (drop (a .number .0 * a .width) (a .rows .now))) (add-sub-cancel-left (a .number .0 * a .width) (a .width))
-    ∙ sym (ap (λ (t : Bool). cond t (row (a .width) (a .rows .now) (a .number .0)) []) e)
+    ap (λ (k : ℕ). take k (drop (a .place * a .width) (a .words .now))) (add-sub-cancel-left (a .place * a .width) (a .width))
+    ∙ sym (ap (λ (t : Bool). cond t (row (a .width) (a .words .now) (a .place)) []) e)
 
-pub row-spec : {M : Type 1} → statement M
-row-spec =
+pub part-spec : {M : Type 1} → statement M
+part-spec =
     tie.close
     (tie.spec
     lies-within-requires
