@@ -1,0 +1,4 @@
+-- The laws behind the proofs of this crate, for those above it too.
+pub mod Among
+pub mod Stray
+pub mod Fitting

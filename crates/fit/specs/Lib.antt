@@ -1,0 +1,3 @@
+-- What the contracts of `fit` cite.
+pub mod Refusal
+pub mod Rows
