@@ -1,0 +1,10 @@
+-- Laws on plain lists and numbers, for the proofs of this crate.
+pub mod Usable
+pub mod Whole
+pub mod Marking
+pub mod Visiting
+pub mod Naming
+pub mod Columns
+pub mod Ordinals
+pub mod Single
+pub mod Collecting

@@ -1,0 +1,29 @@
+-- The basis rows, and the units among them. Here rows stand in basis order, so that place j is ordinal j.
+use Prim.Native.Nat.{ℕ, suc}
+use mathlib.Core.List.{List, [], _∷_, map}
+use mathlib.Core.Bool.{Bool, true, false, cond}
+use lib.Dec.{eqb}
+use Rattle.rows.specs.Row.{Row}
+use Rattle.rows.specs.Flat.{widthOf, rowAt}
+use Rattle.index.specs.Index.{size}
+
+-- The rows over n atoms that the entries of a basis name.
+abbrev pub basisOf : ℕ → List ℕ → List ℕ → List ℕ → List Row
+basisOf n ws cs entries = map (rowAt n (widthOf n) ws cs) entries
+
+-- The lowest atom of a set that has one.
+abbrev pub low : List Bool → ℕ
+low [] = 0
+low (true ∷ r) = 0
+low (false ∷ r) = suc (low r)
+
+-- "units are the basis rows of one atom, in basis order"
+abbrev pub unitsOf : List Row → List Row
+unitsOf [] = []
+unitsOf (r ∷ rs) = cond (eqb (size (r .atoms)) 1) (r ∷ unitsOf rs) (unitsOf rs)
+
+abbrev pub unitAtoms : List Row → List ℕ
+unitAtoms rs = map (λ (r : Row). low (r .atoms)) (unitsOf rs)
+
+abbrev pub unitValues : List Row → List ℕ
+unitValues rs = map (λ (r : Row). cond (r .constant) 1 0) (unitsOf rs)

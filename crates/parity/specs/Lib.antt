@@ -1,0 +1,6 @@
+-- What the contracts of `parity` cite, in the order to read it.
+pub mod Basis
+pub mod Prepare
+pub mod Named
+pub mod Entered
+pub mod Noted
