@@ -1,6 +1,8 @@
 -- Laws on plain lists and numbers, for the proofs of this crate.
 pub mod Usable
 pub mod Whole
+pub mod Leaving
+pub mod Telling
 pub mod Marking
 pub mod Visiting
 pub mod Naming

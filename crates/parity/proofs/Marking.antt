@@ -1,8 +1,8 @@
--- A mark set in the columns of a set's atoms, one atom or one word at a time: the turns of `enter_word` and `enter_row`.
+-- A mark set in the columns of a set's atoms: one column changed, and what is left to mark after one atom or one part of the set.
 use Prim.Native.Nat.{ℕ, _+_, _-_, _*_, _/_, _^_, _≤_, _<_}
 use mathlib.Core.Path.{_≡_, refl, sym, ap, ap₂, _∙_}
 use mathlib.Core.List.{List}
-use mathlib.Core.Bool.{Bool, true, false, not, _&&_, _||_, false≢true}
+use mathlib.Core.Bool.{Bool, true, false, not, _&&_, _||_, false≢true, and-eq-true-iff}
 use native.Mathlib.Omega.{arith}
 use borrow.Author.Tests.{eqb-true, eqb-false, ltb-true, ltb-false}
 use lib.Arith.{lt-of-le-ne}
@@ -77,10 +77,6 @@ left-end stride mark x index y index′ none so = record {
 }
 
 -- one atom is marked
-and-first : (p q : Bool) → (p && q) ≡ true → p ≡ true
-and-first true q e = refl
-and-first false q e = e
-
 visited : (p q : Bool) (mark column : ℕ) → (q ≡ true → p ≡ true) → markIf (p && not q) mark (markIf q mark column) ≡ markIf p mark column
 visited true true mark column h = refl
 visited true false mark column h = refl
@@ -96,7 +92,7 @@ module _ (stride bit c x : ℕ) (index : List ℕ) (y : ℕ) (index′ : List �
       → Left stride (bit * 2 ^ (c * 64)) x index y′ (set index′ (a * stride + c) (bitOr (getD index′ (a * stride + c) 0) bit))
   left-bit y′ is = record {
     kept = length-set index′ (a * stride + c) _ ∙ so .kept;
-    reaches = λ b e. so .reaches b (and-first (has y b) (not (eqb b a)) (sym (visits b) ∙ e));
+    reaches = λ b e. so .reaches b (and-eq-true-iff (has y b) (not (eqb b a)) .0 (sym (visits b) ∙ e) .0);
     columns = λ b r.
         let mark = bit * 2 ^ (c * 64) in
         let old = setOf (row stride index′ b) in
@@ -121,9 +117,6 @@ joined true true mark column = or-twice column mark
 joined true false mark column = refl
 joined false q mark column = refl
 
-or-left : (p q : Bool) → p ≡ true → (p || q) ≡ true
-or-left p q e = ap (λ (t : Bool). t || q) e
-
 or-right : (p q : Bool) → q ≡ true → (p || q) ≡ true
 or-right true q e = refl
 or-right false q e = e
@@ -138,7 +131,7 @@ module _ (stride mark x : ℕ) (index : List ℕ) (y : ℕ) (index′ : List ℕ
   pub left-part : (index″ : List ℕ) → length index″ ≡ length index′ → Entered stride mark z index′ index″ → Left stride mark x index y′ index″
   left-part index″ kept part = record {
     kept = kept ∙ so .kept;
-    reaches = λ b e. so .reaches b (either b ∙ or-left (has y′ b) (has z b) e);
+    reaches = λ b e. so .reaches b (either b ∙ ap (λ (t : Bool). t || has z b) e);
     columns = λ b r.
         let old = setOf (row stride index′ b) in
         ap (markIf (has y′ b) mark) (part .columns b (rw (so .kept) r)) ∙ joined (has y′ b) (has z b) mark old

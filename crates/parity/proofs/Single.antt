@@ -53,7 +53,7 @@ module _ (ws : List ℕ) (h : length ws ≤ 8) (c : Counted) (is : c ≡ countOf
       omega arith
 
 -- a set of one atom is not empty
-pub single-some : (x : ℕ) → ones x ≡ 1 → 0 < x
+single-some : (x : ℕ) → ones x ≡ 1 → 0 < x
 unfolding ones
 single-some zero e = omega arith
 single-some (suc x) e = omega arith

@@ -18,12 +18,12 @@ use Rattle.parity.proofs.Marking.{Left, left-start, left-end, lowest-ro
 -- ---- the atoms of a word whose first atom is s
 
 module _ (k w s : ℕ) (some : 0 < w) (fits : w < 2 ^ k) where
-  pub word-low : low (w * 2 ^ s) ≡ s + trailingZeros k w
+  word-low : low (w * 2 ^ s) ≡ s + trailingZeros k w
   word-low =
       let alone : w ≡ 0 * 2 ^ k + w = omega arith in
       ap (λ (n : ℕ). low (n * 2 ^ s)) alone ∙ low-words k 0 w s some fits
 
-  pub word-next : bitAnd w (w - 1) * 2 ^ s ≡ w * 2 ^ s - 2 ^ (s + trailingZeros k w)
+  word-next : bitAnd w (w - 1) * 2 ^ s ≡ w * 2 ^ s - 2 ^ (s + trailingZeros k w)
   word-next =
       let t = trailingZeros k w in
       ap (λ (n : ℕ). n * 2 ^ s) (clear-low w some ∙ ap (λ (n : ℕ). w - 2 ^ n) (low-word k w some fits)) ∙ mul-comm (w - 2 ^ t) (2 ^ s) ∙ mul-sub (2 ^ s) w (2 ^ t)
@@ -69,11 +69,11 @@ module _ (ws : List ℕ) (i : ℕ) (h : i < length ws) (fits : getD ws i 0 < 2 ^
   cons : setOf (drop i ws) ≡ setOf (drop (i + 1) ws) * 2 ^ 64 + getD ws i 0
   cons = left-cons 64 ws i h ∙ ap (λ (n : ℕ). setOf (drop (i + 1) ws) * 2 ^ 64 + n) (mod-eq-of-lt fits)
 
-  pub words-next : wordsFrom ws i ≡ bitOr (wordsFrom ws (i + 1)) (getD ws i 0 * 2 ^ (i * 64))
+  words-next : wordsFrom ws i ≡ bitOr (wordsFrom ws (i + 1)) (getD ws i 0 * 2 ^ (i * 64))
   unfolding wordsFrom
   words-next = ap (λ (n : ℕ). n * 2 ^ (i * 64)) cons ∙ split-words 64 (setOf (drop (i + 1) ws)) (getD ws i 0) i fits
 
-  pub ones-next : ones (setOf (drop i ws)) ≡ ones (setOf (drop (i + 1) ws)) + ones (getD ws i 0)
+  ones-next : ones (setOf (drop i ws)) ≡ ones (setOf (drop (i + 1) ws)) + ones (getD ws i 0)
   ones-next = ap ones cons ∙ ones-cat 64 (setOf (drop (i + 1) ws)) (getD ws i 0) fits
 
 -- after i turns of `enter_row`: the words from place i on are left to mark and to count

@@ -13,12 +13,12 @@ ghost use Rattle.parity.specs.Basis.{basisOf};
 ghost use Rattle.parity.specs.Named.{Named};
 ghost use Rattle.parity.specs.Entered.{Reaches, Entered};
 
-fn clear(words: &mut [u64])
-    ensures { λ _. ⌜ now (words .exit) ≡ replicate (length (now (words .entry))) 0 ⌝ }
+fn clear(columns: &mut [u64])
+    ensures { λ _. ⌜ now (columns .exit) ≡ replicate (length (now (columns .entry))) 0 ⌝ }
 {
     let mut i = 0;
-    while i < words.len() {
-        words[i] = 0;
+    while i < columns.len() {
+        columns[i] = 0;
         i += 1;
     }
 }

@@ -4,6 +4,7 @@ ghost use Prim.Native.Nat.{_≤_};
 ghost use Rattle.parity.specs.Prepare.{lent, listsShort, prepareUnfit, toldOf, prepareOf};
 
 mod incidence;
+pub mod promises;
 mod units;
 
 // A system as preparation leaves it: how many atoms and rows there are, how many basis rows, and whether it was refuted.

@@ -11,19 +11,19 @@ use Rattle.parity.proofs.incidence.clear.Statement.{statement}
 use Rattle.parity.proofs.incidence.clear.Tie as tie
 
 abbrev Inv-loop : tie.InvT-loop
-Inv-loop words₀ i₀ words i = (i ≤ length words₀) × (length words ≡ length words₀) × (words ≡ replicate i 0 ++ drop i words₀)
+Inv-loop columns₀ i₀ columns i = (i ≤ length columns₀) × (length columns ≡ length columns₀) × (columns ≡ replicate i 0 ++ drop i columns₀)
 
 abbrev μ-loop : tie.MeasureT-loop
-μ-loop words₀ i₀ words i = length words₀ - i
+μ-loop columns₀ i₀ columns i = length columns₀ - i
 
 loop-holds : tie.Need-loop-holds Inv-loop μ-loop
 loop-holds c = (search needs, refl, refl)
 
-mul-words : tie.Need-mul-words Inv-loop μ-loop
-mul-words c = search needs
+mul-columns : tie.Need-mul-columns Inv-loop μ-loop
+mul-columns c = search needs
 
-slice-write-words : tie.Need-slice-write-words Inv-loop μ-loop
-slice-write-words c = search needs
+slice-write-columns : tie.Need-slice-write-columns Inv-loop μ-loop
+slice-write-columns c = search needs
 
 add-i : tie.Need-add-i Inv-loop μ-loop
 add-i c = search needs
@@ -34,7 +34,7 @@ loop-less c = search needs
 loop-again : tie.Need-loop-again Inv-loop μ-loop
 loop-again c =
     let at = c .before in
-    let l = at .before .args .words .now in (
+    let l = at .before .args .columns .now in (
       omega arith,
       simp length-set (at .loop .inv .1),
       ap (λ (w : List ℕ). set w (at .loop .i) 0) (at .loop .inv .2) ∙ fill-more (at .loop .i) 0 l (omega arith),
@@ -46,7 +46,7 @@ same-length c = search needs
 returns : tie.Need-returns Inv-loop μ-loop
 returns c =
     let at = c .before in
-    let l = at .before .args .words .now in
+    let l = at .before .args .columns .now in
     let done : at .loop .i ≡ length l = omega arith in
     at .loop .inv .2 ∙ ap (λ (n : ℕ). replicate n 0 ++ drop n l) done ∙ ap (λ (m : List ℕ). replicate (length l) 0 ++ m) (drop-length l) ∙ append-nil (replicate (length l) 0)
 
@@ -57,8 +57,8 @@ clear-spec =
     Inv-loop
     μ-loop
     loop-holds
-    mul-words
-    slice-write-words
+    mul-columns
+    slice-write-columns
     add-i
     loop-less
     loop-again
