@@ -1,6 +1,6 @@
 -- The turns of `reduce_row`: one word after another, until a word has an atom without a pivot or the row is empty.
-use Prim.Native.Nat.{ℕ, zero, suc, _+_, _*_, _/_, _%_, _^_, _≤_, _<_}
-use mathlib.Core.Path.{_≡_, refl, sym, ap, ap₂, _∙_}
+use Prim.Native.Nat.{ℕ, suc, _+_, _*_, _/_, _%_, _^_, _≤_, _<_}
+use mathlib.Core.Path.{_≡_, refl, sym, ap, _∙_}
 use mathlib.Core.List.{List, [], _∷_, _++_}
 use mathlib.Core.Bool.{true}
 use mathlib.Core.Option.{none, some}
@@ -14,14 +14,13 @@ use lib.Pow.{pow-pos}
 use lib.Dec.{eqb}
 use Rattle.words.specs.Set.{packed, setOf, has}
 use Rattle.words.proofs.Meaning.{has-none}
-use Rattle.rows.specs.Row.{Row}
-use Rattle.rows.specs.Flat.{row, rowAt, atomsOf}
+use Rattle.rows.specs.Flat.{row, rowAt}
 use Rattle.rows.proofs.Places.{row-length}
 use Rattle.rows.proofs.Rowwise.{atoms-none}
 use Rattle.echelon.specs.Forward.{empty, find, reduced}
 use Rattle.echelon.specs.Eliminate.{rowsTo}
 use Rattle.echelon.specs.Promises.{Lowest}
-use Rattle.echelon.specs.Steps.{Clean, OnlyRow, EmptyTo, Known, Directory, headOf, Reduced, Pivot, Finished}
+use Rattle.echelon.specs.Steps.{Clean, OnlyRow, Directory, headOf, Reduced, Finished}
 use Rattle.echelon.proofs.Lows.{find-none, empty-none}
 use Rattle.echelon.proofs.Replaced.{rowAt-length, row-kept, at-kept, clean-kept, rows-kept, only-start, only-join}
 use Rattle.echelon.proofs.Onwards.{onward-start, onward-join, onward-few, onward-end}

@@ -5,7 +5,6 @@ pub mod Numbered
 pub mod Written
 pub mod Left
 pub mod Basis
-pub mod Plus
 pub mod Sums
 pub mod Sorted
 pub mod Solutions

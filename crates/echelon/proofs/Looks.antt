@@ -1,12 +1,12 @@
 -- What the directory says of the lowest atom of the row under work: its pivot, ready to be added, or none.
 use Prim.Native.Nat.{ℕ, zero, suc, _+_, _*_, _/_, _^_, _≤_, _<_}
-use mathlib.Core.Path.{_≡_, refl, sym, ap, ap₂, _∙_}
+use mathlib.Core.Path.{_≡_, sym, ap, ap₂, _∙_}
 use mathlib.Core.List.{List}
-use mathlib.Core.Bool.{Bool, true, false, cond}
+use mathlib.Core.Bool.{Bool, cond}
 use mathlib.Core.Option.{none, some}
-use native.Mathlib.Nat.{mul-le-mul-right, one-mul}
+use native.Mathlib.Nat.{mul-le-mul-right}
 use native.Mathlib.Omega.{arith}
-use borrow.Author.Tests.{eq-eqb, ne-eqb}
+use borrow.Author.Tests.{ne-eqb}
 use lib.ListN.{getD, take, drop}
 use lib.Count.{trailingZeros}
 use lib.Pow.{pow-pos}
@@ -14,14 +14,13 @@ use lib.Dec.{eqb}
 use Rattle.words.specs.Set.{setOf, low}
 use Rattle.words.proofs.Lowest.{low-words, trailing-form}
 use Rattle.words.proofs.Meaning.{low-lowest}
-use Rattle.rows.specs.Row.{Row}
 use Rattle.rows.specs.Flat.{row, rowAt, atomsOf}
 use Rattle.rows.proofs.Digits.{atoms-has}
 use Rattle.rows.proofs.Rowwise.{has-below, atoms-none}
 use Rattle.echelon.specs.Forward.{find}
 use Rattle.echelon.specs.Eliminate.{rowsTo}
 use Rattle.echelon.specs.Promises.{Lowest}
-use Rattle.echelon.specs.Steps.{Clean, EmptyTo, Directory, headOf, OnlyRow}
+use Rattle.echelon.specs.Steps.{Clean, EmptyTo, Directory, headOf}
 use Rattle.echelon.proofs.Replaced.{row-kept, at-kept, clean-kept}
 use Rattle.echelon.proofs.Turns.{from, worked, Turn}
 

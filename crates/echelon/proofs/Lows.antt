@@ -7,6 +7,7 @@ use mathlib.Core.Option.{none, some}
 use native.Mathlib.Nat.{le-of-suc-le-suc, not-suc-le-zero}
 use native.Mathlib.Omega.{arith}
 use lib.ListN.{length, getD}
+use Rattle.rows.proofs.Plus.{length-plus}
 use Rattle.rows.specs.Row.{Row, hasAtom, plus}
 use Rattle.echelon.specs.Forward.{sameLow, empty, find}
 use Rattle.echelon.specs.Promises.{Lowest, LowestRises}
@@ -118,30 +119,10 @@ low-of (false ∷ r) h = suc-low r (low r) (low-of r h)
 pub low-lowest : (r : Row) → empty (r .atoms) ≡ false → Lowest r (low (r .atoms))
 low-lowest r h = let found = low-of (r .atoms) h in record { own = found .0; below = found .1 }
 
-pub lowest-of : (r : Row) → empty (r .atoms) ≡ false → (a : ℕ) × Lowest r a
-lowest-of r h = (low (r .atoms), low-lowest r h)
-
 pub low-lt : (r : List Bool) → empty r ≡ false → low r < length r
 low-lt [] h = absurd (true≢false h)
 low-lt (true ∷ r) h = omega arith
 low-lt (false ∷ r) h = suc-le-suc (low-lt r h)
-
-same-of : (r s : List Bool) → sameLow r s ≡ true → (a : ℕ) × Low r a × Low s a
-same-of [] s h = absurd (false≢true h)
-same-of (a ∷ r) [] h = absurd (false≢true h)
-same-of (true ∷ r) (true ∷ s) h = (0, zero-low r, zero-low s)
-same-of (true ∷ r) (false ∷ s) h = absurd (false≢true h)
-same-of (false ∷ r) (true ∷ s) h = absurd (false≢true h)
-same-of (false ∷ r) (false ∷ s) h =
-    let found = same-of r s h in (suc (found .0), suc-low r (found .0) (found .1), suc-low s (found .0) (found .2))
-
-pub same-lowest : (r s : Row) → sameLow (r .atoms) (s .atoms) ≡ true → (a : ℕ) × Lowest r a × Lowest s a
-same-lowest r s h =
-    let found = same-of (r .atoms) (s .atoms) h in (
-      found .0,
-      record { own = found .1 .0; below = found .1 .1 },
-      record { own = found .2 .0; below = found .2 .1 },
-    )
 
 -- ---- it rises with an addition
 
@@ -161,11 +142,6 @@ rises (false ∷ r) (false ∷ s) (suc a) (suc b) h k e = suc-le-suc (rises r s 
 pub lowest-rises : LowestRises
 lowest-rises r s a b h k l = rises (r .atoms) (s .atoms) a b (of r a h) (of s a k) (l .own)
 
-pub plus-length : (r s : List Bool) → length r ≡ length s → length (plus r s) ≡ length r
-plus-length [] s e = sym e
-plus-length (a ∷ r) [] e = refl
-plus-length (a ∷ r) (b ∷ s) e = ap suc (plus-length r s (omega arith))
-
 pub rest-le : (r : List Bool) → rest r ≤ length r
 rest-le [] = omega arith
 rest-le (true ∷ r) = omega arith
@@ -175,7 +151,7 @@ pub rest-falls : (r s : List Bool) → sameLow r s ≡ true → length r ≡ len
 unfolding xor
 rest-falls [] s h e = absurd (false≢true h)
 rest-falls (a ∷ r) [] h e = absurd (false≢true h)
-rest-falls (true ∷ r) (true ∷ s) h e = omega (arith, rest-le (plus r s), plus-length r s (omega arith))
+rest-falls (true ∷ r) (true ∷ s) h e = omega (arith, rest-le (plus r s), length-plus r s (omega arith))
 rest-falls (true ∷ r) (false ∷ s) h e = absurd (false≢true h)
 rest-falls (false ∷ r) (true ∷ s) h e = absurd (false≢true h)
 rest-falls (false ∷ r) (false ∷ s) h e = rest-falls r s h (omega arith)

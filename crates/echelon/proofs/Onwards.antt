@@ -5,13 +5,11 @@ use mathlib.Core.List.{List, [], _∷_}
 use mathlib.Core.Bool.{Bool, true, false, cond}
 use mathlib.Core.Option.{Option, none, some}
 use native.Mathlib.Nat.{add-zero, zero-add, add-assoc}
-use native.Mathlib.Numerals.{add-one, one-add}
 use native.Mathlib.Omega.{arith}
 use lib.ListN.{length}
 use Rattle.rows.specs.Row.{Row, add}
 use Rattle.echelon.specs.Forward.{sameLow, find, forward, reduced}
-use Rattle.echelon.specs.Steps.{rest, Onward}
-use Rattle.echelon.specs.Steps.{rest}
+use Rattle.echelon.specs.Steps.{Onward}
 use Rattle.echelon.proofs.Lows.{rest-falls, rest-le}
 
 -- what is found has the same lowest atom

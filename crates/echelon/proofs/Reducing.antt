@@ -10,7 +10,8 @@ use Rattle.rows.specs.Row.{Row, add}
 use Rattle.echelon.specs.Forward.{sameLow, empty, find, forward, reduced}
 use Rattle.echelon.specs.Promises.{Sized, ReductionEnds}
 use Rattle.echelon.specs.Steps.{rest}
-use Rattle.echelon.proofs.Lows.{find-none, plus-length, rest-le, rest-falls}
+use Rattle.echelon.proofs.Lows.{find-none, rest-le, rest-falls}
+use Rattle.rows.proofs.Plus.{length-plus}
 
 abbrev pub Each : (Row → Type 0) → List Row → Type 0
 Each P [] = Unit {0}
@@ -28,7 +29,7 @@ each-long n [] h = tt
 each-long n (r ∷ rs) h = (h .0, each-long n rs (h .1))
 
 pub long-add : (n : ℕ) (r s : Row) → Long n r → Long n s → Long n (add r s)
-long-add n r s h k = plus-length (r .atoms) (s .atoms) (h ∙ sym k) ∙ h
+long-add n r s h k = length-plus (r .atoms) (s .atoms) (h ∙ sym k) ∙ k
 
 -- ---- the row found
 

@@ -5,11 +5,9 @@ use mathlib.Core.List.{List, [], _∷_, _++_, zipWith, append-assoc}
 use native.Mathlib.Nat.{sub-zero, suc-sub-suc, zero-sub}
 use native.Mathlib.Omega.{arith}
 use lib.ListN.{length, getD, take, drop, set, length-append, length-drop, length-set, take-append-drop}
-use lib.Seq.{length-take-le, take-nil, take-at, drop-at, take-take, drop-drop, take-add, getD-take, getD-drop, set-split, take-set-le, drop-set-lt, take-set-lt, drop-set-add}
+use lib.Seq.{length-take-le, take-nil, take-at, drop-at, take-take, drop-drop, take-add, getD-take, take-set-le, drop-set-lt, take-set-lt, drop-set-add}
 use lib.Bits.{bitXor}
-use Rattle.rows.specs.Row.{Row}
-use Rattle.rows.specs.Flat.{row, rowAt, atomsOf}
-use Rattle.rows.proofs.Places.{row-length}
+use Rattle.rows.specs.Flat.{row, rowAt}
 use Rattle.rows.proofs.Adding.{earlier}
 use Rattle.rows.proofs.Digits.{atoms-length}
 use Rattle.words.specs.Set.{setOf}

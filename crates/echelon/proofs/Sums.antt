@@ -10,7 +10,7 @@ use Rattle.echelon.specs.Promises.{Sized, LeftAreSums}
 use Rattle.echelon.proofs.Reducing.{Each, each-map, Long, long-add, reduced-keeps}
 use Rattle.echelon.proofs.Numbered.{each-numbered}
 use Rattle.echelon.proofs.Left.{by-rows}
-use Rattle.echelon.proofs.Plus.{add-comm, add-assoc, add-twice, add-zeros}
+use Rattle.rows.proofs.Plus.{add-comm, add-assoc, add-twice, add-zeros}
 
 abbrev Sum : ℕ → List Row → Row → Type 0
 Sum n rs q = (bs : List Bool) × (q ≡ sumOf n bs rs)

@@ -1,14 +1,14 @@
 -- The turns of `reduce_word`: row t whose words before word i are empty, with word i in a local.
-use Prim.Native.Nat.{ℕ, zero, suc, _+_, _-_, _*_, _/_, _%_, _^_, _≤_, _<_}
-use mathlib.Core.Path.{_≡_, refl, sym, ap, ap₂, _∙_}
+use Prim.Native.Nat.{ℕ, zero, suc, _+_, _-_, _*_, _^_, _≤_, _<_}
+use mathlib.Core.Path.{_≡_, sym, ap, ap₂, _∙_}
 use mathlib.Core.List.{List, [], _∷_, _++_, zipWith}
-use mathlib.Core.Bool.{Bool, xor}
+use mathlib.Core.Bool.{Bool}
 use mathlib.Core.Option.{some}
-use native.Mathlib.Nat.{mod-eq-of-lt, zero-mul, mul-one, suc-mul, add-zero, mul-assoc, mul-comm, add-mul}
+use native.Mathlib.Nat.{mod-eq-of-lt, zero-mul, suc-mul, add-zero, mul-assoc, add-mul}
 use native.Mathlib.Numerals.{add-one}
 use native.Mathlib.Omega.{arith}
 use lib.ListN.{length, getD, take, drop, set, length-append, length-drop, length-set}
-use lib.Seq.{length-take-le, take-at, drop-at, take-take, getD-take, getD-drop, getD-set-same, set-getD, take-set-le, drop-set-lt, take-append-le}
+use lib.Seq.{length-take-le, drop-at, take-take, getD-take, getD-drop, getD-set-same, set-getD, take-set-le, drop-set-lt, take-append-le}
 use lib.Bits.{bitXor, xor-block, xor-lt}
 use lib.Pow.{pow-pos, pow-add}
 use lib.Dec.{eqb}
@@ -22,10 +22,9 @@ use Rattle.rows.proofs.Digits.{atoms-xor, atoms-length}
 use Rattle.rows.proofs.Rowwise.{constant-sum, zip-length}
 use Rattle.echelon.specs.Forward.{find}
 use Rattle.echelon.specs.Eliminate.{rowsTo}
-use Rattle.echelon.specs.Steps.{put, addedFrom, Clean, OnlyRow, EmptyTo, rest, Onward, Reduced}
-use Rattle.echelon.specs.Steps.{rest}
+use Rattle.echelon.specs.Steps.{addedFrom, Clean, OnlyRow, EmptyTo, rest, Onward, Reduced}
 use Rattle.echelon.proofs.Lows.{rest-falls}
-use Rattle.echelon.proofs.Replaced.{parts, put-row, put-only, set-put, only-start, only-join, at-kept, row-kept}
+use Rattle.echelon.proofs.Replaced.{parts, put-row, put-only, set-put, only-start, only-join}
 use Rattle.echelon.proofs.Onwards.{onward-start, onward-next, find-same}
 
 -- ---- words as one number, in two parts

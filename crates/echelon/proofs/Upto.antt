@@ -1,9 +1,9 @@
 -- The turns of `eliminate_rows`: after t rows the memory holds what `eliminated` says of them, and the rest is as it was.
 use Prim.Native.Nat.{ℕ, zero, suc, _+_, _-_, _*_, _^_, _≤_, _<_, min}
 use mathlib.Core.Path.{_≡_, refl, sym, ap, ap₂, _∙_}
-use mathlib.Core.List.{List, [], _∷_, _++_, append-assoc}
+use mathlib.Core.List.{List, [], _∷_, _++_}
 use mathlib.Core.Bool.{Bool, true, false, cond, _&&_, and-eq-true-iff}
-use native.Mathlib.Nat.{suc-mul, add-zero, zero-add, suc-add, mul-le-mul-right}
+use native.Mathlib.Nat.{suc-mul, add-zero, zero-add, suc-add}
 use native.Mathlib.Numerals.{add-one}
 use native.Mathlib.Omega.{arith}
 use lib.ListN.{length, getD, take, drop, set, replicate, length-append, length-set, take-append-drop}
@@ -14,9 +14,9 @@ use Rattle.words.specs.Set.{setOf}
 use Rattle.rows.specs.Row.{Row}
 use Rattle.rows.specs.Flat.{row, rowAt, atomsOf}
 use Rattle.echelon.specs.Forward.{State, empty, joined, next, reduced, eliminated}
-use Rattle.echelon.specs.Eliminate.{Outcome, rowsTo, wordsOf, constantsOf, written, outcome}
+use Rattle.echelon.specs.Eliminate.{rowsTo, wordsOf, constantsOf, written, outcome}
 use Rattle.echelon.specs.Promises.{Sized}
-use Rattle.echelon.specs.Steps.{Clean, OnlyRow, Directory, Pivot, Finished}
+use Rattle.echelon.specs.Steps.{Clean, Directory, Finished}
 use Rattle.echelon.proofs.Lows.{has-some}
 use Rattle.echelon.proofs.Left.{rows-le}
 use Rattle.echelon.proofs.Basis.{rank-rows}

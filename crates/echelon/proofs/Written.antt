@@ -18,7 +18,7 @@ use Rattle.rows.proofs.Digits.{mask-lt, packed-unpack, atoms-fix-words, words-h
 use Rattle.echelon.specs.Eliminate.{rowsTo, wordsOf, constantsOf}
 use Rattle.echelon.specs.Promises.{Sized, numbered}
 use Rattle.echelon.proofs.Reducing.{Long, each-long}
-use Rattle.echelon.proofs.Numbered.{numbered-last, numbered-each, each-numbered}
+use Rattle.echelon.proofs.Numbered.{numbered-each, each-numbered}
 
 pub unpack-length : (k w x : ℕ) → length (unpack k w x) ≡ w
 unfolding unpack
@@ -89,17 +89,6 @@ fit-constants rs y s h = rw (constant-written rs y s h) (bit (numbered rs s .con
     bit : (b : Bool) → cond b 1 0 < 2
     bit true = omega arith
     bit false = omega arith
-
-pub rows-forth : (n w : ℕ) (rs : List Row) → Sized n rs → n ≤ w * 64 → (x y : List ℕ)
-    → rowsTo n w (wordsOf w rs ++ x) (constantsOf rs ++ y) (length rs) ≡ rs
-unfolding rowsTo wordsOf constantsOf
-rows-forth n w [] sized wide x y = refl
-rows-forth n w (r ∷ rs) sized wide x y =
-    let words = unpack 64 w (maskOf (r .atoms)) in
-    let own : ℕ = cond (r .constant) 1 0 in
-    ap₂ _∷_ (numbered-at n w (r ∷ rs) sized wide x y (length rs) (omega arith) ∙ numbered-last r rs)
-    (ap₂ (λ (a b : List ℕ). rowsTo n w a b (length rs)) (append-assoc (wordsOf w rs) words x) (append-assoc (constantsOf rs) (own ∷ []) y)
-    ∙ rows-forth n w rs (sized .1) wide (words ++ x) (own ∷ y))
 
 -- ---- and words read as rows are the words of those rows
 

@@ -1,7 +1,7 @@
 -- What `eliminate` answers and leaves in the memory lent to it, for fit and unfit input.
 use Prim.Native.Nat.{ℕ, zero, suc, _*_, min}
 use mathlib.Core.List.{List, [], _∷_, _++_}
-use mathlib.Core.Bool.{Bool, false, cond, _||_}
+use mathlib.Core.Bool.{false, cond, _||_}
 use lib.ListN.{length, drop}
 use lib.Dec.{ltb}
 use Rattle.rows.specs.Row.{Row}

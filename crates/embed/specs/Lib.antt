@@ -2,4 +2,3 @@
 pub mod Embed
 pub mod Written
 pub mod Promises
-pub mod Settled

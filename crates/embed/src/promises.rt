@@ -1,5 +1,4 @@
 // The theorems of `embed`, each held by the gate as the contract of a function with an empty body; specs/Promises.antt has the statements.
-ghost use Rattle.embed.specs.Settled.{Settled};
 ghost use Rattle.embed.specs.Promises.{TableIsRows, WriteEmbeds};
 
 // "An assignment meets a table when it gives these atoms no forbidden pattern."
@@ -10,9 +9,4 @@ pub fn table_is_rows()
 // "bit i of a pattern belongs to the i-th atom named."
 pub fn write_embeds()
     ensures { λ _. ⌜ WriteEmbeds ⌝ }
-{}
-
-// "Marked [t]: proved together as a table with a lone statement over the definitions."
-pub fn settled()
-    ensures { λ _. ⌜ Settled ⌝ }
 {}

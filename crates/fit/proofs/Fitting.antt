@@ -108,9 +108,6 @@ module _ (n m : ℕ) (ws cs : List ℕ) (more : Bool) where
         room .1,
       )
 
-pub unfit-fit : (n m : ℕ) (ws cs : List ℕ) → rowsUnfit n m ws cs ≡ 0 → Fit n m ws cs
-unfit-fit n m ws cs e = joined-fit n m ws cs false (sym (joined-none n m ws cs false (rowsUnfit n m ws cs) refl refl) ∙ e) .0
-
 -- and back: what is fit is not refused, and what is not refused with 10 is within the limits
 pub fit-joined : (n m : ℕ) (ws cs : List ℕ) (more : Bool) → Fit n m ws cs → more ≡ false → joined n m ws cs more ≡ 0
 fit-joined n m ws cs more fit none =

@@ -11,7 +11,7 @@ use Rattle.rows.specs.Row.{Row, plus, add, meets, sumOf}
 use Rattle.hull.specs.Table.{Pattern, allowed, allows}
 use Rattle.hull.specs.Equations.{Pivots, pivotsFrom, equations, through, zeros, hullFrom, hullOf}
 use Rattle.hull.specs.Promises.{Sized, EverySum}
-use Rattle.hull.proofs.Sums.{xor-self, xor-same, plus-zeros}
+use Rattle.rows.proofs.Plus.{xor-self, xor-same, plus-zeros}
 use Rattle.hull.proofs.Dot.{dot, dot-plus, dot-sum, dot-zeros, dot-on, dot-off, dot-met}
 use Rattle.hull.proofs.Spans.{Each}
 use Rattle.hull.proofs.Within.{Summing, Within, within-map, within-pivots}

@@ -9,7 +9,7 @@ use Rattle.rows.specs.Row.{Row, overlap, meets, plus}
 use Rattle.rows.proofs.Odd.{odd-suc, odd-beq}
 use Rattle.rows.proofs.Sums.{overlap-plus}
 use Rattle.hull.specs.Equations.{zeros}
-use Rattle.hull.proofs.Sums.{xor-false}
+use Rattle.rows.proofs.Plus.{xor-false}
 
 abbrev pub dot : List Bool → List Bool → Bool
 dot c x = odd (overlap c x)

@@ -8,7 +8,7 @@ use lib.ListN.{length}
 use Rattle.rows.specs.Row.{plus, meets, meetsAll}
 use Rattle.hull.specs.Table.{Pattern}
 use Rattle.hull.specs.Equations.{Pivots, equations, through, zeros}
-use Rattle.hull.proofs.Sums.{xor-comm, plus-comm}
+use Rattle.rows.proofs.Plus.{xor-comm, plus-comm}
 use Rattle.hull.proofs.Dot.{dot, dot-comm, dot-sum, dot-zeros, dot-on, dot-off}
 use Rattle.hull.proofs.Spans.{spans}
 

@@ -15,7 +15,7 @@ use Rattle.rows.proofs.Counting.{count-ext, count-none}
 use Rattle.hull.specs.Table.{Pattern, allowed, allows}
 use Rattle.hull.specs.Equations.{Pivots, pivotsFrom, equations, through, rank, hullFrom, hullOf}
 use Rattle.hull.specs.Promises.{ExactIsSet, ExactIsCount}
-use Rattle.hull.proofs.Sums.{plus-comm}
+use Rattle.rows.proofs.Plus.{plus-comm}
 use Rattle.hull.proofs.Counts.{count-moved, count-same}
 use Rattle.hull.proofs.Dot.{dot, dot-zeros}
 use Rattle.hull.proofs.Spans.{spans, spans-count}

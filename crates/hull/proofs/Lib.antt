@@ -1,5 +1,4 @@
 -- Laws on plain values: first those behind the promises, which other crates may cite too, then those of the code.
-pub mod Sums
 pub mod Dot
 pub mod Counts
 pub mod Spans

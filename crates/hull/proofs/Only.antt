@@ -11,7 +11,7 @@ use native.Mathlib.Omega.{arith}
 use lib.ListN.{length, getD, length-map, length-replicate}
 use Rattle.hull.specs.Equations.{Pivots, equations, zeros}
 use Rattle.hull.specs.Promises.{free, Described, FreeEquations}
-use Rattle.hull.proofs.Sums.{xor-self, xor-same}
+use Rattle.rows.proofs.Plus.{xor-self, xor-same}
 use Rattle.hull.proofs.Dot.{dot, dot-zeros, dot-on, dot-off}
 
 length-equations : (at : ℕ) (ss : Pivots) → length (equations ss) ≡ length (free at ss)

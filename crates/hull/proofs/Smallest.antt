@@ -9,7 +9,7 @@ use Rattle.rows.specs.Row.{Row, plus, meets, meetsAll}
 use Rattle.hull.specs.Table.{Pattern, allows, allowed}
 use Rattle.hull.specs.Equations.{Pivots, pivotsFrom, zeros, hullFrom, hullOf}
 use Rattle.hull.specs.Promises.{Sized, Affine, SmallestAffine}
-use Rattle.hull.proofs.Sums.{plus-comm, plus-assoc, plus-self, plus-twice, length-plus}
+use Rattle.rows.proofs.Plus.{plus-comm, plus-assoc, plus-self, plus-twice, length-plus}
 use Rattle.hull.proofs.Dot.{dot-sum, dot-zeros, dot-met}
 use Rattle.hull.proofs.Spans.{Each, spans, spans-zeros, spans-each}
 use Rattle.hull.proofs.Within.{Summing, within-pivots, within-spans}

@@ -14,7 +14,7 @@ use Rattle.rows.proofs.Counting.{count-none}
 use Rattle.hull.specs.Table.{Pattern}
 use Rattle.hull.specs.Equations.{Pivots, enter, pivotsFrom, rank, zeros}
 use Rattle.hull.specs.Promises.{Sized}
-use Rattle.hull.proofs.Sums.{plus-self, length-plus}
+use Rattle.rows.proofs.Plus.{plus-self, length-plus}
 use Rattle.hull.proofs.Counts.{count-moved}
 
 abbrev pub Each : (Pattern → Type 0) → List Pattern → Type 0

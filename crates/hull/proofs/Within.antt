@@ -10,7 +10,7 @@ use Rattle.rows.specs.Row.{plus}
 use Rattle.hull.specs.Table.{Pattern}
 use Rattle.hull.specs.Equations.{Pivots, enter, pivotsFrom, zeros}
 use Rattle.hull.specs.Promises.{Sized}
-use Rattle.hull.proofs.Sums.{plus-comm, plus-twice, length-plus}
+use Rattle.rows.proofs.Plus.{plus-comm, plus-twice, length-plus}
 use Rattle.hull.proofs.Spans.{Each, spans}
 
 abbrev pub Summing : (List Bool → Type 0) → Type 0

@@ -1,7 +1,7 @@
 -- What `prepare` leaves where it does not refuse, as the state of elimination: its basis rows are those of `eliminated`.
 use Prim.Native.Nat.{ℕ, zero, suc, _*_, _≤_, _<_}
 use mathlib.Core.Path.{_≡_, refl, sym, ap, ap₂, _∙_, subst}
-use mathlib.Core.List.{List, [], _∷_, _++_, map}
+use mathlib.Core.List.{List, [], _∷_, map}
 use mathlib.Core.Bool.{Bool, true, false, true≢false, false≢true}
 use native.Mathlib.Omega.{arith}
 use lib.ListN.{length, getD, take, drop, List·getD-append}
@@ -9,7 +9,7 @@ use lib.Seq.{take-append-seam}
 use Rattle.rows.specs.Row.{Row, Assignment, meetsAll}
 use Rattle.rows.specs.Flat.{widthOf, rowAt}
 use Rattle.echelon.specs.Forward.{State, eliminated}
-use Rattle.echelon.specs.Eliminate.{Outcome, rowsTo, wordsOf, constantsOf, written}
+use Rattle.echelon.specs.Eliminate.{Outcome, written}
 use Rattle.echelon.specs.Promises.{Sized, Lowest, numbered, basisRows}
 use Rattle.echelon.proofs.Left.{left-sized, rows-le, rows-all}
 use Rattle.echelon.proofs.Basis.{basis-below, pivots-differ}

@@ -1,6 +1,6 @@
 -- A column of the index that preparation wrote: its words are those of the definition, and its bits tell which basis rows have the atom.
 use Prim.Native.Nat.{ℕ, zero, suc, _+_, _*_, _^_, _≤_, _<_, min}
-use mathlib.Core.Path.{_≡_, refl, sym, ap, ap₂, _∙_}
+use mathlib.Core.Path.{_≡_, refl, sym, ap, _∙_}
 use mathlib.Core.List.{List, [], _∷_, _++_, map, append-assoc}
 use mathlib.Core.Bool.{Bool, true, false, cond, true≢false}
 use native.Mathlib.Nat.{zero-mul, suc-mul, lt-of-lt-of-le}
@@ -11,22 +11,21 @@ use lib.ListN.{length, getD, take, drop, length-append, length-map}
 use lib.Seq.{length-take-le, take-at, drop-at, getD-take}
 use lib.Dec.{eqb}
 use lib.Pow.{pow-mono}
-use Rattle.words.specs.Set.{packed, setOf, has}
+use Rattle.words.specs.Set.{setOf, has}
 use Rattle.rows.specs.Row.{Row, hasAtom}
-use Rattle.rows.specs.Flat.{widthOf, rowAt, row, atomsOf, maskOf, unpack}
+use Rattle.rows.specs.Flat.{widthOf, rowAt, row, maskOf, unpack}
 use Rattle.rows.specs.declared.Atom.{Atom}
 use Rattle.rows.proofs.Digits.{atoms-has, atoms-mask, mask-lt, packed-unpack}
 use Rattle.index.specs.Index.{columnWidth, columnOf, indexOf}
-use Rattle.index.specs.Column.{overRank, columnUnfit, wantedColumn}
+use Rattle.index.specs.Column.{columnUnfit, wantedColumn}
 use Rattle.index.proofs.Overrank.{over-none}
-use Rattle.echelon.specs.Promises.{basisRows}
 use Rattle.echelon.proofs.Written.{unpack-length}
 use Rattle.parity.specs.Basis.{basisOf}
-use Rattle.parity.specs.Prepare.{Lent, followed}
+use Rattle.parity.specs.Prepare.{followed}
 use Rattle.parity.specs.Promises.{Tells, ColumnTells}
 use Rattle.parity.proofs.Whole.{Room}
 use Rattle.parity.proofs.Usable.{rank-few}
-use Rattle.parity.proofs.Leaving.{st, left, Unrefused, unrefused, of-both}
+use Rattle.parity.proofs.Leaving.{st, left, unrefused, of-both}
 
 -- ---- the columns one after another
 

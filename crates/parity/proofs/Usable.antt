@@ -1,13 +1,11 @@
 -- What elimination leaves of a fit system that is not refuted can be read: each basis entry names a fit row.
-use Prim.Native.Nat.{ℕ, _+_, _*_, _^_, _≤_, _<_, min}
-use mathlib.Core.Path.{_≡_, refl, sym, ap, ap₂, _∙_}
+use Prim.Native.Nat.{ℕ, _+_, _*_, _≤_, _<_, min}
 use mathlib.Core.List.{List, _++_}
-use mathlib.Core.Bool.{false}
 use native.Mathlib.Omega.{arith}
 use lib.ListN.{length, getD, drop, length-append, List·getD-append}
 use Rattle.rows.specs.Flat.{widthOf}
 use Rattle.echelon.specs.Forward.{State, eliminated}
-use Rattle.echelon.specs.Eliminate.{rowsTo, wordsOf, constantsOf, written}
+use Rattle.echelon.specs.Eliminate.{rowsTo, wordsOf, constantsOf}
 use Rattle.echelon.specs.Promises.{Sized}
 use Rattle.echelon.proofs.Left.{rows-le, left-sized}
 use Rattle.echelon.proofs.Basis.{rank-rows, basis-below}

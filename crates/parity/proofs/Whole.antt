@@ -1,8 +1,8 @@
 -- `prepare` as a whole: refused with nothing touched, or what follows elimination.
 use Prim.Native.Nat.{ℕ, zero, suc, _*_, _≤_, _<_, min}
-use mathlib.Core.Path.{_≡_, refl, sym, ap, ap₂, _∙_, subst}
+use mathlib.Core.Path.{_≡_, refl, sym, ap, _∙_, subst}
 use mathlib.Core.List.{List, _++_}
-use mathlib.Core.Bool.{Bool, true, false, _||_}
+use mathlib.Core.Bool.{Bool, true, false}
 use native.Mathlib.Nat.{mul-le-mul-left, le-trans}
 use native.Mathlib.Omega.{arith}
 use borrow.Author.Tests.{ltb-false, le-ltb}

@@ -5,6 +5,7 @@ pub mod Adding
 pub mod Odd
 pub mod Flips
 pub mod Counting
+pub mod Plus
 pub mod Sums
 pub mod Deciding
 pub mod Triangle

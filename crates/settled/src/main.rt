@@ -1,6 +1,8 @@
 // The small settled examples of document 01 that run. Each check is proved besides: `expect` asks for it.
 use check::expect;
 
+mod table;
+
 fn main() {
     let words = [0u64; 5];
     // "k=8 wants 4 words."

@@ -1,10 +1,7 @@
 -- `eliminate` meets its contract: `unfit`, then `eliminate_rows` with an empty directory.
 use Prim.Native.Nat.{ℕ}
-use mathlib.Core.Path.{refl, sym, ap, _∙_}
-use native.Mathlib.Omega.{arith}
+use mathlib.Core.Path.{refl, ap, _∙_}
 use lib.ListN.{length-replicate}
-use Rattle.rows.specs.Flat.{widthOf}
-use Rattle.fit.proofs.Fitting.{Fit}
 use Rattle.echelon.specs.Forward.{eliminated}
 use Rattle.echelon.specs.Eliminate.{rowsTo, written}
 use Rattle.echelon.proofs.Whole.{fit-clean, refused-is, done-is, fit-here}

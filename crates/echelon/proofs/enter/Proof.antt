@@ -1,9 +1,9 @@
 -- `enter` meets its contract: nothing is written where the head is 0.
-use Prim.Native.Nat.{ℕ, _<_}
+use Prim.Native.Nat.{_<_}
 use mathlib.Core.Path.{refl}
 use native.Mathlib.Omega.{arith}
 use borrow.Author.Tests.{eq-eqb, ne-eqb}
-use lib.ListN.{length, length-set}
+use lib.ListN.{length}
 use borrow.Author.Needs.{needs}
 use Rattle.echelon.proofs.enter.Statement.{statement}
 use Rattle.echelon.proofs.enter.Tie as tie

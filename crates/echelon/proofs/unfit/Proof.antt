@@ -1,9 +1,7 @@
 -- `unfit` meets its contract: `rows_number`, with the basis among the lent buffers.
-use mathlib.Core.Path.{sym, ap, _∙_}
-use mathlib.Core.Bool.{Bool}
 use lib.ListN.{length}
 use borrow.Author.Tests.{lt-ltb, le-ltb}
-use Prim.Native.Nat.{ℕ, _<_, _≤_, min}
+use Prim.Native.Nat.{_<_, _≤_, min}
 use native.Mathlib.Omega.{arith}
 use Rattle.fit.proofs.Fitting.{joined-ten, joined-nine, joined-none}
 use Rattle.echelon.specs.Eliminate.{eliminateUnfit}

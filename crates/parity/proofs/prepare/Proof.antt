@@ -1,8 +1,6 @@
 -- `prepare` meets its contract: `unfit`, then elimination, units and index.
-use Prim.Native.Nat.{ℕ}
-use mathlib.Core.Path.{sym, ap, _∙_}
+use mathlib.Core.Path.{ap, _∙_}
 use native.Mathlib.Omega.{arith}
-use lib.ListN.{length}
 use Rattle.parity.specs.Prepare.{Lent, lent}
 use Rattle.parity.specs.declared.Prepared.{Prepared}
 use Rattle.parity.proofs.Whole.{Room, room, refused-is, refuted-is, named, constants-fit, rank-least, index-room, sound-is}

@@ -1,9 +1,8 @@
 -- `reduce_row` meets its contract: after i words the row is `Reduced` from word i on.
-use Prim.Native.Nat.{ℕ, _+_, _-_, _*_, _^_, _≤_, _<_}
-use mathlib.Core.Path.{_≡_, sym, _∙_}
+use Prim.Native.Nat.{_+_, _-_, _*_, _^_, _≤_, _<_}
+use mathlib.Core.Path.{sym, _∙_}
 use native.Mathlib.Omega.{arith}
-use lib.ListN.{length, getD}
-use lib.Count.{trailingZeros, trailing-le}
+use lib.Count.{trailingZeros}
 use Rattle.words.proofs.Lowest.{trailing-form}
 use Rattle.echelon.specs.Steps.{Reduced}
 use Rattle.echelon.proofs.Turns.{row-word}

@@ -1,6 +1,6 @@
 -- `reduce_word` meets its contract: after some turns row t, with word i in the local, is `Turn`.
 use Prim.Native.Nat.{ℕ, suc, _+_, _-_, _*_, _^_, _≤_, _<_}
-use mathlib.Core.Path.{_≡_, refl, sym, ap, ap₂, _∙_}
+use mathlib.Core.Path.{_≡_, sym, _∙_}
 use native.Mathlib.Numerals.{add-one}
 use native.Mathlib.Omega.{arith}
 use lib.ListN.{length, getD, set, length-set}
@@ -14,7 +14,6 @@ use Rattle.rows.specs.Flat.{rowAt}
 use Rattle.echelon.specs.Eliminate.{rowsTo}
 use Rattle.echelon.proofs.Onwards.{onward-few}
 use Rattle.echelon.proofs.Replaced.{rowAt-length}
-use borrow.Author.Needs.{needs}
 use Rattle.echelon.proofs.reduce.reduce_word.Statement.{statement}
 use Rattle.echelon.proofs.reduce.reduce_word.Tie as tie
 

@@ -1,12 +1,12 @@
--- The sum of two lists of bits is commutative and associative, whatever their lengths, and a list added twice is as if never added.
+-- The sum of two sets, and of two rows, is commutative and associative; what is added twice is as if never added; and no atoms added
+-- change nothing.
 use Prim.Native.Nat.{ℕ, zero, suc}
 use mathlib.Core.Path.{_≡_, refl, sym, ap, ap₂, _∙_}
 use mathlib.Core.List.{List, [], _∷_}
 use mathlib.Core.Bool.{Bool, true, false, xor}
 use native.Mathlib.Omega.{arith}
-use lib.ListN.{length}
-use Rattle.rows.specs.Row.{plus}
-use Rattle.hull.specs.Equations.{zeros}
+use lib.ListN.{length, replicate}
+use Rattle.rows.specs.Row.{Row, plus, add}
 
 pub xor-comm : (a b : Bool) → xor a b ≡ xor b a
 unfolding xor
@@ -68,13 +68,30 @@ plus-twice [] y e = refl
 plus-twice (a ∷ x) [] e = let z : ⊥ = omega arith in absurd z
 plus-twice (a ∷ x) (b ∷ y) e = let l : length x ≡ length y = omega arith in ap₂ _∷_ (xor-twice a b) (plus-twice x y l)
 
-pub plus-self : (x : List Bool) → plus x x ≡ zeros (length x)
+pub plus-self : (x : List Bool) → plus x x ≡ replicate (length x) false
 unfolding xor
 plus-self [] = refl
 plus-self (true ∷ x) = ap (_∷_ false) (plus-self x)
 plus-self (false ∷ x) = ap (_∷_ false) (plus-self x)
 
-pub plus-zeros : (n : ℕ) (x : List Bool) → length x ≡ n → plus (zeros n) x ≡ x
+pub plus-zeros : (n : ℕ) (x : List Bool) → length x ≡ n → plus (replicate n false) x ≡ x
 plus-zeros zero x e = refl
 plus-zeros (suc n) [] e = let z : ⊥ = omega arith in absurd z
 plus-zeros (suc n) (b ∷ x) e = let l : length x ≡ n = omega arith in ap₂ _∷_ (xor-false b) (plus-zeros n x l)
+
+-- ---- the same of rows, with their constants
+
+abbrev both : List Bool → Bool → Row
+both l c = record { atoms = l; constant = c }
+
+pub add-comm : (r s : Row) → add r s ≡ add s r
+add-comm r s = ap₂ both (plus-comm (r .atoms) (s .atoms)) (xor-comm (r .constant) (s .constant))
+
+pub add-assoc : (r s t : Row) → add (add r s) t ≡ add r (add s t)
+add-assoc r s t = ap₂ both (plus-assoc (r .atoms) (s .atoms) (t .atoms)) (xor-assoc (r .constant) (s .constant) (t .constant))
+
+pub add-twice : (r s : Row) → length (r .atoms) ≡ length (s .atoms) → add r (add r s) ≡ s
+add-twice r s e = ap₂ both (plus-twice (r .atoms) (s .atoms) e) (xor-twice (r .constant) (s .constant))
+
+pub add-zeros : (n : ℕ) (r : Row) → length (r .atoms) ≡ n → add (both (replicate n false) false) r ≡ r
+add-zeros n r e = ap₂ both (plus-zeros n (r .atoms) e) (xor-false (r .constant))

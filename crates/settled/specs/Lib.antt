@@ -1,0 +1,2 @@
+-- What the table of settled examples says.
+pub mod Settled
