@@ -8,11 +8,12 @@ use native.Mathlib.Nat.{le-of-suc-le-suc}
 use native.Mathlib.Omega.{arith}
 use lib.ListN.{length, getD, length-append, List·getD-append}
 use Rattle.rows.specs.Row.{Row}
-use Rattle.echelon.specs.Forward.{sameLow, empty, find, reduced, joined, eliminated}
-use Rattle.echelon.specs.Promises.{Lowest, numbered, PivotsDiffer}
-use Rattle.echelon.proofs.Lows.{same-low, low, low-lowest}
+use Rattle.echelon.specs.Forward.{sameLow, empty, find, reduced, joined, eliminated, low}
+use Rattle.echelon.specs.Promises.{Lowest, numbered, PivotFound, PivotsDiffer}
+use Rattle.echelon.proofs.Lows.{same-low, same-lowest, low-lowest}
 use Rattle.echelon.proofs.Reducing.{Each}
 use Rattle.echelon.proofs.Numbered.{numbered-last, numbered-before, numbered-each, each-numbered}
+use Rattle.echelon.proofs.Onwards.{find-same}
 use Rattle.echelon.proofs.Left.{by-rows, Settled, left-settled}
 
 -- The numbers of the rows that are not empty.
@@ -89,6 +90,13 @@ unfound-parts false b o e = (refl, e)
 pub unfound : (r : Row) (bs : List Row) → find r bs ≡ none → Each (λ b. sameLow (r .atoms) (b .atoms) ≡ false) bs
 unfound r [] e = tt
 unfound r (b ∷ bs) e = let so = unfound-parts (sameLow (r .atoms) (b .atoms)) b (find r bs) e in (so .0, unfound r bs (so .1))
+
+pub pivot-found : PivotFound
+pivot-found r bs = (
+  (λ b e. same-lowest r b (find-same r b bs e)),
+  (λ e s a h own other.
+      true≢false (sym (same-low r (numbered bs s) a own other) ∙ each-numbered (λ b. sameLow (r .atoms) (b .atoms) ≡ false) bs (unfound r bs e) s h)),
+)
 
 apart : (rs : List Row) → Settled rs → (a j : ℕ) → j < length rs → (i : ℕ) → i < j → Lowest (numbered rs i) a → Lowest (numbered rs j) a → ⊥
 apart [] h a j l = let z : ⊥ = omega arith in absurd z

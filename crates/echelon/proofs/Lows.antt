@@ -9,7 +9,7 @@ use native.Mathlib.Omega.{arith}
 use lib.ListN.{length, getD}
 use Rattle.rows.proofs.Plus.{length-plus}
 use Rattle.rows.specs.Row.{Row, hasAtom, plus}
-use Rattle.echelon.specs.Forward.{sameLow, empty, find}
+use Rattle.echelon.specs.Forward.{sameLow, empty, low, find}
 use Rattle.echelon.specs.Promises.{Lowest, LowestRises}
 use Rattle.echelon.specs.Steps.{rest}
 
@@ -105,12 +105,6 @@ suc-low r a h = (h .0, below)
     below zero l = refl
     below (suc b) l = h .1 b (le-of-suc-le-suc l)
 
--- The place of the lowest atom, where there is one.
-abbrev pub low : List Bool → ℕ
-low [] = 0
-low (true ∷ r) = 0
-low (false ∷ r) = suc (low r)
-
 low-of : (r : List Bool) → empty r ≡ false → Low r (low r)
 low-of [] h = absurd (true≢false h)
 low-of (true ∷ r) h = zero-low r
@@ -123,6 +117,23 @@ pub low-lt : (r : List Bool) → empty r ≡ false → low r < length r
 low-lt [] h = absurd (true≢false h)
 low-lt (true ∷ r) h = omega arith
 low-lt (false ∷ r) h = suc-le-suc (low-lt r h)
+
+same-of : (r s : List Bool) → sameLow r s ≡ true → (a : ℕ) × Low r a × Low s a
+same-of [] s h = absurd (false≢true h)
+same-of (a ∷ r) [] h = absurd (false≢true h)
+same-of (true ∷ r) (true ∷ s) h = (0, zero-low r, zero-low s)
+same-of (true ∷ r) (false ∷ s) h = absurd (false≢true h)
+same-of (false ∷ r) (true ∷ s) h = absurd (false≢true h)
+same-of (false ∷ r) (false ∷ s) h =
+    let found = same-of r s h in (suc (found .0), suc-low r (found .0) (found .1), suc-low s (found .0) (found .2))
+
+pub same-lowest : (r s : Row) → sameLow (r .atoms) (s .atoms) ≡ true → (a : ℕ) × Lowest r a × Lowest s a
+same-lowest r s h =
+    let found = same-of (r .atoms) (s .atoms) h in (
+      found .0,
+      record { own = found .1 .0; below = found .1 .1 },
+      record { own = found .2 .0; below = found .2 .1 },
+    )
 
 -- ---- it rises with an addition
 

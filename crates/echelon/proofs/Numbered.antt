@@ -1,24 +1,22 @@
 -- Row number s of rows that stand last first: the last one, and those before it.
-use Prim.Native.Nat.{ℕ, suc, _-_, _<_}
-use mathlib.Core.Path.{_≡_, sym, ap, subst}
+use Prim.Native.Nat.{ℕ, _<_}
+use mathlib.Core.Path.{_≡_, refl, sym, ap, subst}
 use mathlib.Core.Logic.{⊎-elim}
 use mathlib.Core.List.{List, [], _∷_}
-use mathlib.Core.Bool.{false}
+use mathlib.Core.Bool.{Bool, cond}
 use native.Mathlib.Nat.{le-of-suc-le-suc, eq-or-lt-of-le}
 use native.Mathlib.Omega.{arith}
-use lib.ListN.{length, getD}
+use borrow.Author.Tests.{eq-eqb, ne-eqb}
+use lib.ListN.{length}
 use Rattle.rows.specs.Row.{Row}
 use Rattle.echelon.specs.Promises.{numbered}
 use Rattle.echelon.proofs.Reducing.{Each}
 
 pub numbered-last : (r : Row) (rs : List Row) → numbered (r ∷ rs) (length rs) ≡ r
-numbered-last r rs =
-    let e : suc (length rs) - suc (length rs) ≡ 0 = omega arith in ap (λ (i : ℕ). getD (r ∷ rs) i (record { atoms = []; constant = false })) e
+numbered-last r rs = ap (λ (b : Bool). cond b r (numbered rs (length rs))) (eq-eqb (length rs) (length rs) refl)
 
 pub numbered-before : (r : Row) (rs : List Row) (s : ℕ) → s < length rs → numbered (r ∷ rs) s ≡ numbered rs s
-numbered-before r rs s h =
-    let e : suc (length rs) - suc s ≡ suc (length rs - suc s) = omega arith in
-    ap (λ (i : ℕ). getD (r ∷ rs) i (record { atoms = []; constant = false })) e
+numbered-before r rs s h = ap (λ (b : Bool). cond b r (numbered rs s)) (ne-eqb s (length rs) (λ e. omega arith))
 
 -- What holds of the last one and of those before it holds of each.
 pub numbered-each : (P : ℕ → Row → Type 0) (r : Row) (rs : List Row) → P (length rs) r → ((s : ℕ) → s < length rs → P s (numbered rs s))

@@ -15,9 +15,9 @@ use Rattle.rows.specs.Decisions.{Decisions, agrees, undecided}
 use Rattle.rows.specs.Triangular.{HasNone, Triangular}
 use Rattle.rows.proofs.Counting.{count-ext}
 use Rattle.rows.proofs.Triangle.{triangular-leaves}
-use Rattle.echelon.specs.Forward.{sameLow, empty}
+use Rattle.echelon.specs.Forward.{sameLow, empty, low}
 use Rattle.echelon.specs.Promises.{Sized, Lowest}
-use Rattle.echelon.proofs.Lows.{same-low, low, low-lowest, low-lt}
+use Rattle.echelon.proofs.Lows.{same-low, low-lowest, low-lt}
 use Rattle.echelon.proofs.Reducing.{Each, each-map, Long, each-long}
 use Rattle.echelon.proofs.Left.{Settled}
 use Rattle.echelon.proofs.Basis.{unfound}

@@ -1,17 +1,17 @@
 -- `eliminate` as a whole: refused with nothing touched, or the rows done.
-use Prim.Native.Nat.{ℕ, zero, suc, _+_, _*_, _≤_, _<_, min}
-use mathlib.Core.Path.{_≡_, refl, sym, ap, _∙_}
+use Prim.Native.Nat.{ℕ, _+_, _*_, _≤_, _<_, min}
+use mathlib.Core.Path.{_≡_, sym, ap, _∙_}
 use mathlib.Core.List.{List}
-use mathlib.Core.Bool.{false}
 use native.Mathlib.Nat.{suc-mul, mul-le-mul-right}
 use native.Mathlib.Omega.{arith}
 use borrow.Author.Tests.{ltb-false}
 use lib.ListN.{length}
 use lib.Dec.{ltb}
 use Rattle.rows.specs.Flat.{widthOf}
-use Rattle.fit.proofs.Fitting.{Fit, joined-fit}
+use Rattle.fit.specs.Refusal.{orRefused}
+use Rattle.fit.proofs.Fitting.{Fit, joined-fit, refused-is}
 use Rattle.echelon.specs.Forward.{eliminated}
-use Rattle.echelon.specs.Eliminate.{Outcome, outcome, rowsTo, written, unless, eliminateUnfit, eliminateOf}
+use Rattle.echelon.specs.Eliminate.{Outcome, rowsTo, written, refused, eliminateUnfit, eliminateOf}
 use Rattle.echelon.specs.Steps.{Clean}
 
 -- a row of fit ones lies within
@@ -26,22 +26,17 @@ fit-clean n m ws cs fit r h = record {
   constant = fit .small r h;
 }
 
-refused : (k : ℕ) (o : Outcome) (ws cs ps : List ℕ) → (k ≡ 0 → ⊥)
-    → outcome (record { number = k; rank = 0; additions = 0; refuted = false }) ws cs ps ≡ unless k o ws cs ps
-refused zero o ws cs ps ne = absurd (ne refl)
-refused (suc k) o ws cs ps ne = refl
-
 module _ (n m : ℕ) (ws cs ps : List ℕ) (k : ℕ) (is : k ≡ eliminateUnfit n m ws cs ps) where
   st : Outcome
   st = written (widthOf n) (eliminated n (rowsTo n (widthOf n) ws cs m)) ws cs ps
 
-  pub refused-is : (k ≡ 0 → ⊥) → outcome (record { number = k; rank = 0; additions = 0; refuted = false }) ws cs ps ≡ eliminateOf n m ws cs ps
+  pub not-fit : (k ≡ 0 → ⊥) → refused ws cs ps k ≡ eliminateOf n m ws cs ps
   unfolding eliminateOf st
-  refused-is ne = refused k st ws cs ps ne ∙ ap (λ (j : ℕ). unless j st ws cs ps) is
+  not-fit ne = refused-is k st (refused ws cs ps) ne ∙ ap (λ (j : ℕ). orRefused j st (refused ws cs ps)) is
 
   pub done-is : k ≡ 0 → written (widthOf n) (eliminated n (rowsTo n (widthOf n) ws cs m)) ws cs ps ≡ eliminateOf n m ws cs ps
   unfolding eliminateOf st
-  done-is e = ap (λ (j : ℕ). unless j st ws cs ps) (sym e ∙ is)
+  done-is e = ap (λ (j : ℕ). orRefused j st (refused ws cs ps)) (sym e ∙ is)
 
   pub fit-here : k ≡ 0 → Fit n m ws cs × (min m n ≤ length ps)
   unfolding eliminateUnfit

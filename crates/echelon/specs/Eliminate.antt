@@ -6,7 +6,7 @@ use lib.ListN.{length, drop}
 use lib.Dec.{ltb}
 use Rattle.rows.specs.Row.{Row}
 use Rattle.rows.specs.Flat.{widthOf, rowAt, maskOf, unpack}
-use Rattle.fit.specs.Refusal.{refusal}
+use Rattle.fit.specs.Refusal.{refusal, orRefused}
 use Rattle.fit.specs.Rows.{overfull, short, strays}
 use Rattle.echelon.specs.Forward.{State, eliminated}
 use Rattle.echelon.specs.declared.Eliminated.{Eliminated}
@@ -49,12 +49,11 @@ eliminateUnfit n m ws cs ps =
     refusal ((10, overfull n m) ∷ (9, short n m ws cs || ltb (length ps) (min m n)) ∷ (11, strays n (widthOf n) ws cs m) ∷ [])
 
 -- "a refused call returns its number, 0 in every other field", and all lent memory stands.
-abbrev pub unless : ℕ → Outcome → List ℕ → List ℕ → List ℕ → Outcome
-unless zero o ws cs ps = o
-unless (suc k) o ws cs ps = outcome (record { number = suc k; rank = 0; additions = 0; refuted = false }) ws cs ps
+abbrev pub refused : List ℕ → List ℕ → List ℕ → ℕ → Outcome
+refused ws cs ps number = outcome (record { number = number; rank = 0; additions = 0; refuted = false }) ws cs ps
 
 unfoldable pub eliminateOf : ℕ → ℕ → List ℕ → List ℕ → List ℕ → Outcome
 unfolding eliminateUnfit
 eliminateOf n m ws cs ps =
     let w = widthOf n in
-    unless (eliminateUnfit n m ws cs ps) (written w (eliminated n (rowsTo n w ws cs m)) ws cs ps) ws cs ps
+    orRefused (eliminateUnfit n m ws cs ps) (written w (eliminated n (rowsTo n w ws cs m)) ws cs ps) (refused ws cs ps)

@@ -20,6 +20,12 @@ empty [] = true
 empty (true ∷ r) = false
 empty (false ∷ r) = empty r
 
+-- The lowest atom of a set that has one.
+abbrev pub low : List Bool → ℕ
+low [] = 0
+low (true ∷ r) = 0
+low (false ∷ r) = suc (low r)
+
 -- The earlier row that is the pivot of a row's lowest atom, if it has one: an empty row neither has a pivot nor is one.
 abbrev pub find : Row → List Row → Option Row
 find r [] = none
@@ -48,7 +54,7 @@ start = record { rows = []; basis = []; additions = 0; refuted = false }
 
 -- "A new lowest atom makes the row a pivot: rank + 1, row number appended to the basis."
 abbrev pub joined : Bool → ℕ → List ℕ → List ℕ
-joined left number basis = cond left basis (basis ++ (number ∷ []))
+joined isEmpty number basis = cond isEmpty basis (basis ++ (number ∷ []))
 
 abbrev pub next : State → Row × ℕ → State
 next st left = record {

@@ -1,10 +1,11 @@
 -- The theorems of `echelon`, as statements, for every n and every list of rows (the last first); src/promises.rt holds each.
-use Prim.Native.Nat.{ℕ, suc, _-_, _^_, _≤_, _<_}
+use Prim.Native.Nat.{ℕ, _-_, _^_, _≤_, _<_}
 use mathlib.Core.Path.{_≡_}
 use mathlib.Core.List.{List, [], _∷_, map}
-use mathlib.Core.Bool.{Bool, true, false}
-use mathlib.Core.Option.{none}
+use mathlib.Core.Bool.{Bool, true, false, cond}
+use mathlib.Core.Option.{none, some}
 use lib.ListN.{length, getD}
+use lib.Dec.{eqb}
 use Rattle.rows.specs.Row.{Row, Assignment, hasAtom, meetsAll, add, sumOf}
 use Rattle.rows.specs.Count.{count}
 use Rattle.echelon.specs.Forward.{find, reduced, State, eliminated}
@@ -19,17 +20,24 @@ pub record Lowest (r : Row) (a : ℕ) : Type 0 where
   pub own : hasAtom r a ≡ true
   pub below : (b : ℕ) → b < a → hasAtom r b ≡ false
 
+-- Row number s of rows that stand last first, where there is one.
+abbrev pub numbered : List Row → ℕ → Row
+numbered [] s = record { atoms = []; constant = false }
+numbered (r ∷ rs) s = cond (eqb s (length rs)) r (numbered rs s)
+
 -- A pivot added takes a row's lowest atom away and brings none below it: the measure by which the additions end.
 abbrev pub LowestRises : Type 0
 LowestRises = (r s : Row) (a b : ℕ) → Lowest r a → Lowest s a → Lowest (add r s) b → a < b
 
+-- "a lowest atom whose pivot is an earlier row": what is found has the row's lowest atom as its own, and where none is found no row has.
+abbrev pub PivotFound : Type 0
+PivotFound = (r : Row) (bs : List Row)
+    → ((b : Row) → find r bs ≡ some b → (a : ℕ) × Lowest r a × Lowest b a)
+    × (find r bs ≡ none → (s a : ℕ) → s < length bs → Lowest r a → Lowest (numbered bs s) a → ⊥)
+
 -- "while a row has a lowest atom whose pivot is an earlier row, that row is added": when it ends, there is none.
 abbrev pub ReductionEnds : Type 0
 ReductionEnds = (n : ℕ) (bs : List Row) (r : Row) → Sized n bs → length (r .atoms) ≡ n → find (reduced n bs r .0) bs ≡ none
-
--- Row number s of rows that stand last first.
-abbrev pub numbered : List Row → ℕ → Row
-numbered rs s = getD rs (length rs - suc s) (record { atoms = []; constant = false })
 
 -- The rows that the basis names, in its order.
 abbrev pub basisRows : State → List Row

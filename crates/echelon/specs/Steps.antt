@@ -1,5 +1,5 @@
--- What the private functions of `echelon` ask and do, for their contracts alone: no reader has to believe it, since only the contract of
--- `eliminate` is public.
+-- What the private functions of `echelon` ask and do, for their contracts alone: no reader has to believe it, since no public contract
+-- cites it.
 use Prim.Native.Nat.{ℕ, suc, _+_, _*_, _/_, _^_, _≤_, _<_}
 use mathlib.Core.Path.{_≡_}
 use mathlib.Core.List.{List, [], _∷_, _++_, zipWith}

@@ -1,5 +1,10 @@
 // The theorems of `echelon`, each held by the gate as the contract of a function with an empty body; specs/Promises.antt has the statements.
-ghost use Rattle.echelon.specs.Promises.{LowestRises, ReductionEnds, PivotsDiffer, LeftAreSums, SolutionsKept, SoundCounts};
+ghost use Rattle.echelon.specs.Promises.{PivotFound, LowestRises, ReductionEnds, PivotsDiffer, LeftAreSums, SolutionsKept, SoundCounts};
+
+// "a lowest atom whose pivot is an earlier row"
+pub fn pivot_found()
+    ensures { λ _. ⌜ PivotFound ⌝ }
+{}
 
 // "while a row has a lowest atom whose pivot is an earlier row, that row is added": each addition makes the lowest atom rise ..
 pub fn lowest_rises()
@@ -26,7 +31,7 @@ pub fn solutions_kept()
     ensures { λ _. ⌜ SolutionsKept ⌝ }
 {}
 
-// sound: the rest can come out
+// sound means solvable, with 2^(n − rank) solutions
 pub fn sound_counts()
     ensures { λ _. ⌜ SoundCounts ⌝ }
 {}

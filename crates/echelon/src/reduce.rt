@@ -9,13 +9,13 @@ ghost use Rattle.rows.specs.Flat.{row};
 ghost use Rattle.echelon.specs.Steps.{addedFrom, Clean, EmptyTo, Directory, headOf, Reduced, Finished};
 
 // A word of a row as it is left, and the additions that it took.
-struct Left {
+struct LeftWord {
     word: u64,
     additions: usize,
 }
 
 // A row as it is left: its lowest atom and the word that has it (0 where the row is empty), and the additions that it took.
-pub struct Row {
+pub struct LeftRow {
     pub head: u64,
     pub lowest: usize,
     pub additions: usize,
@@ -57,7 +57,7 @@ fn reduce_word(
     i: usize,
     heads: &[u64],
     sources: &[usize],
-) -> Left
+) -> LeftWord
     requires { ⌜ (width ≤ 8) × (i < width) × Clean n width (number .0) (now rows) (now constants) × EmptyTo width (number .0) (now rows) i × Directory n width (number .0) (now rows) (now constants) (now heads) (now sources) ⌝ }
     ensures left { λ r. ⌜ Reduced n width (number .0) i (now (rows .entry)) (now (constants .entry)) (now (rows .exit)) (now (constants .exit)) (r .additions) ⌝ }
     ensures word { λ r. ⌜ r .word ≡ getD (row width (now (rows .exit)) (number .0)) i 0 ⌝ }
@@ -77,7 +77,7 @@ fn reduce_word(
         head = head_of(heads, i, word);
     }
     rows[at] = word;
-    Left {
+    LeftWord {
         word: word,
         additions: additions,
     }
@@ -92,7 +92,7 @@ pub fn reduce_row(
     number: Source,
     heads: &[u64],
     sources: &[usize],
-) -> Row
+) -> LeftRow
     requires { ⌜ (width ≤ 8) × (n ≤ width * 64) × Clean n width (number .0) (now rows) (now constants) × Directory n width (number .0) (now rows) (now constants) (now heads) (now sources) ⌝ }
     ensures { λ r. ⌜ Finished n width (number .0) (now (rows .entry)) (now (constants .entry)) (now (rows .exit)) (now (constants .exit)) (r .head) (r .lowest) (r .additions) ⌝ }
 {
@@ -102,7 +102,7 @@ pub fn reduce_row(
         let left = reduce_word(rows, constants, n, width, number, i, heads, sources);
         additions += left.additions;
         if left.word != 0 {
-            return Row {
+            return LeftRow {
                 head: left.word,
                 lowest: i * 64 + u64::trailing_zeros(left.word) as usize,
                 additions: additions,
@@ -110,7 +110,7 @@ pub fn reduce_row(
         }
         i += 1;
     }
-    Row {
+    LeftRow {
         head: 0,
         lowest: 0,
         additions: additions,

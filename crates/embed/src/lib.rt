@@ -36,23 +36,13 @@ fn mark(row: &mut [u64], coefficients: u8, names: &[usize])
     }
 }
 
-fn clear(row: &mut [u64])
-    ensures { λ _. ⌜ now (row .exit) ≡ replicate (length (now (row .entry))) 0 ⌝ }
-{
-    let mut i = 0;
-    while i < row.len() {
-        row[i] = 0;
-        i += 1;
-    }
-}
-
 // Writes one row of `width` words from word `start` on.
 fn write_row(rows: &mut [u64], start: usize, width: usize, coefficients: u8, names: &[usize])
     requires { ⌜ start + width ≤ length (now rows) ⌝ }
     ensures { λ _. ⌜ now (rows .exit) ≡ take start (now (rows .entry)) ++ (marked (now (names .entry)) coefficients (replicate width 0) ++ drop (start + width) (now (rows .entry))) ⌝ }
 {
     let end = start + width;
-    clear(&mut rows[start..end]);
+    words::clear(&mut rows[start..end]);
     mark(&mut rows[start..end], coefficients, names);
 }
 

@@ -1,5 +1,5 @@
 -- What lent rows that no number refuses have: the bounds, no atom from n on, no constant above 1. And checks that join more to these.
-use Prim.Native.Nat.{ℕ, suc, _+_, _*_, _^_, _≤_, _<_}
+use Prim.Native.Nat.{ℕ, zero, suc, _+_, _*_, _^_, _≤_, _<_}
 use mathlib.Core.Path.{_≡_, refl, sym, ap, ap₂, _∙_}
 use mathlib.Core.List.{List, [], _∷_}
 use mathlib.Core.Bool.{Bool, true, false, cond, _||_}
@@ -9,7 +9,7 @@ use lib.ListN.{length, getD}
 use lib.Dec.{leb, ltb}
 use Rattle.words.specs.Set.{setOf}
 use Rattle.rows.specs.Flat.{widthOf, row}
-use Rattle.fit.specs.Refusal.{refusal}
+use Rattle.fit.specs.Refusal.{refusal, orRefused}
 use Rattle.fit.specs.Rows.{overfull, short, strays, rowsUnfit}
 use Rattle.fit.proofs.Among.{or-none, or-right, any-next, any-found, any-each, any-none}
 
@@ -129,3 +129,7 @@ unfolding rowsUnfit
 not-ten n m ws cs k is ne =
     let limits = or-none (ltb 512 n) (ltb 512 m) (within (overfull n m) (short n m ws cs) (strays n (widthOf n) ws cs m) (λ e. ne (is ∙ e))) in
     (ltb-false 512 n (limits .0), ltb-false 512 m (limits .1))
+
+pub refused-is : {A : Type 0} (k : ℕ) (answer : A) (refused : ℕ → A) → (k ≡ 0 → ⊥) → refused k ≡ orRefused k answer refused
+refused-is zero answer refused ne = absurd (ne refl)
+refused-is (suc k) answer refused ne = refl

@@ -42,6 +42,7 @@ fn any_strays(rows: &[u64], constants: &[u8], n: usize, width: usize, m: usize) 
     false
 }
 
+// The smaller of two: a basis has min(m, n) entries at most.
 pub fn least(a: usize, b: usize) -> usize
     ensures { λ r. ⌜ r ≡ min a b ⌝ }
 {

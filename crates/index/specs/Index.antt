@@ -1,5 +1,4 @@
--- "Columns of 2·ceil(rank/128) words; bit j of atom a's column is set when basis row j has a." Here rows stand in basis order, so that place
--- j is ordinal j.
+-- The index of document 01: a column of bits for each atom. Here rows stand in basis order, so that place j is ordinal j.
 use Prim.Native.Nat.{ℕ, zero, suc, _+_, _*_, _/_}
 use mathlib.Core.List.{List, [], _++_, map}
 use mathlib.Core.Bool.{Bool}

@@ -14,7 +14,8 @@ use Rattle.words.specs.Set.{setOf}
 use Rattle.words.specs.Set as sets
 use Rattle.rows.specs.Row.{Row}
 use Rattle.rows.specs.Flat.{widthOf, row, rowAt}
-use Rattle.parity.specs.Basis.{basisOf, low, unitsOf, unitAtoms, unitValues}
+use Rattle.echelon.specs.Forward.{low}
+use Rattle.parity.specs.Basis.{basisOf, unitsOf, unitAtoms, unitValues}
 use Rattle.parity.specs.Named.{Named}
 use Rattle.parity.specs.Noted.{Noted}
 use Rattle.parity.proofs.Ordinals.{basis-next}

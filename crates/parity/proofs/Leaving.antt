@@ -8,6 +8,7 @@ use lib.ListN.{length, getD, take, drop, List·getD-append}
 use lib.Seq.{take-append-seam}
 use Rattle.rows.specs.Row.{Row, Assignment, meetsAll}
 use Rattle.rows.specs.Flat.{widthOf, rowAt}
+use Rattle.fit.specs.Refusal.{orRefused}
 use Rattle.echelon.specs.Forward.{State, eliminated}
 use Rattle.echelon.specs.Eliminate.{Outcome, written}
 use Rattle.echelon.specs.Promises.{Sized, Lowest, numbered, basisRows}
@@ -18,9 +19,10 @@ use Rattle.echelon.proofs.Sums.{left-are-sums}
 use Rattle.echelon.proofs.Written.{numbered-at}
 use Rattle.echelon.proofs.Upto.{rows-sized, rows-length}
 use Rattle.parity.specs.Basis.{basisOf}
-use Rattle.parity.specs.Prepare.{Lent, prepareUnfit, followed, unless, prepareOf}
+use Rattle.parity.specs.Prepare.{Lent, prepareUnfit, followed, refused, prepareOf}
 use Rattle.parity.specs.declared.Prepared.{Prepared}
 use Rattle.parity.specs.Promises.{handedIn, Keeps, Counts, Pivots, Sums, PrepareKeeps, PrepareCounts, PreparePivots, PrepareSums}
+use Rattle.parity.proofs.Usable.{rank-few}
 use Rattle.parity.proofs.Whole.{Room, room}
 
 map-same : {B : Type 0} (f g : ℕ → B) (ss : List ℕ) → ((i : ℕ) → i < length ss → f (getD ss i 0) ≡ g (getD ss i 0)) → map f ss ≡ map g ss
@@ -46,8 +48,8 @@ module _ (n m : ℕ) (l : Lent) where
   unfolding prepareOf
   unrefused = go (prepareUnfit n m l) refl
     where
-      go : (k : ℕ) → k ≡ prepareUnfit n m l → unless k (followed (st .refuted) n m l left) l .0 .number ≡ 0 → Unrefused
-      go zero e h = record { fits = room n m l zero e refl; is = ap (λ (j : ℕ). unless j (followed (st .refuted) n m l left) l) (sym e) }
+      go : (k : ℕ) → k ≡ prepareUnfit n m l → orRefused k (followed (st .refuted) n m l left) (refused l) .0 .number ≡ 0 → Unrefused
+      go zero e h = record { fits = room n m l zero e refl; is = ap (λ (j : ℕ). orRefused j (followed (st .refuted) n m l left) (refused l)) (sym e) }
       go (suc k) e h = let z : ⊥ = omega arith in absurd z
 
   -- ---- the rows left, by their numbers and by the basis
@@ -88,9 +90,9 @@ module _ (n m : ℕ) (l : Lent) where
     (λ t. absurd (false≢true t)),
   )
 
-  counts : (b : Bool) → st n m l .refuted ≡ b → Counts n (handedIn n m l) (followed b n m l (left n m l))
-  counts true e = (sound-counts n (handedIn n m l) (sized n m l) .0, λ f. absurd (true≢false f))
-  counts false e = (sound-counts n (handedIn n m l) (sized n m l) .0, λ f. sound-counts n (handedIn n m l) (sized n m l) .1 e)
+  counts : (b : Bool) → st n m l .refuted ≡ b → Counts n m (handedIn n m l) (followed b n m l (left n m l))
+  counts true e = (rank-few n m (l .rows) (l .constants), λ f. absurd (true≢false f))
+  counts false e = (rank-few n m (l .rows) (l .constants), λ f. sound-counts n (handedIn n m l) (sized n m l) .1 e)
 
   -- the same of both ends
   pivots-here : (lists : Prepared × Lent) → lists .0 .system .rank ≡ length (st n m l .basis) → lists .1 .rows ≡ left n m l .rows
@@ -125,7 +127,7 @@ pub prepare-keeps : PrepareKeeps
 prepare-keeps n m l x = of-both n m l (Keeps n (handedIn n m l) x) (keeps n m l x)
 
 pub prepare-counts : PrepareCounts
-prepare-counts n m l = of-both n m l (Counts n (handedIn n m l)) (counts n m l)
+prepare-counts n m l = of-both n m l (Counts n m (handedIn n m l)) (counts n m l)
 
 pub prepare-pivots : PreparePivots
 prepare-pivots n m l = of-both n m l (Pivots n m) (pivots n m l)

@@ -1,4 +1,4 @@
--- Laws on plain lists and numbers, for the proofs of this crate.
+-- The laws behind the promises and the contracts of this crate.
 pub mod Usable
 pub mod Whole
 pub mod Leaving

@@ -25,7 +25,7 @@ use Rattle.rows.specs.declared.Lowest.the-variants as lowest
 use Rattle.rows.proofs.Digits.{atoms-overlap}
 use Rattle.index.specs.Index.{size}
 use Rattle.parity.specs.Basis.{unitsOf}
-use Rattle.parity.specs.Basis as basis
+use Rattle.echelon.specs.Forward as forward
 
 -- ---- what the calls answer
 
@@ -105,18 +105,18 @@ low-half x h even =
 low-odd : (x : ℕ) → x % 2 ≡ 1 → low x ≡ 0
 low-odd x e = low-is x 0 (record { half = x / 2; is = omega arith })
 
-low-atoms : (n x : ℕ) → 0 < x → x < 2 ^ n → basis.low (atomsOf n x) ≡ low x
+low-atoms : (n x : ℕ) → 0 < x → x < 2 ^ n → forward.low (atomsOf n x) ≡ low x
 unfolding atomsOf
 low-atoms zero x h l = let z : ⊥ = omega arith in absurd z
 low-atoms (suc n) x h l = go (x % 2) refl (mod-lt x (zero-lt-suc 1)) (low-atoms n (x / 2))
   where
-    go : (d : ℕ) → x % 2 ≡ d → d < 2 → (0 < x / 2 → x / 2 < 2 ^ n → basis.low (atomsOf n (x / 2)) ≡ low (x / 2)) → basis.low (eqb d 1 ∷ atomsOf n (x / 2)) ≡ low x
+    go : (d : ℕ) → x % 2 ≡ d → d < 2 → (0 < x / 2 → x / 2 < 2 ^ n → forward.low (atomsOf n (x / 2)) ≡ low (x / 2)) → forward.low (eqb d 1 ∷ atomsOf n (x / 2)) ≡ low x
     go zero e b ih = ap suc (ih (omega arith) (omega (arith, pow-suc 2 n))) ∙ sym (low-half x h e)
     go (suc zero) e b ih = sym (low-odd x e)
     go (suc (suc d)) e b ih = let z : ⊥ = omega arith in absurd z
 
 pub low-row : (n w : ℕ) (ws cs : List ℕ) (s : ℕ) → ones (setOf (row w ws s)) ≡ 1 → setOf (row w ws s) < 2 ^ n
-    → basis.low (rowAt n w ws cs s .atoms) ≡ low (setOf (row w ws s))
+    → forward.low (rowAt n w ws cs s .atoms) ≡ low (setOf (row w ws s))
 unfolding rowAt
 low-row n w ws cs s one fit = low-atoms n (setOf (row w ws s)) (single-some (setOf (row w ws s)) one) fit
 

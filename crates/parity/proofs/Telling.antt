@@ -2,19 +2,20 @@
 use Prim.Native.Nat.{ℕ, zero, suc, _+_, _*_, _^_, _≤_, _<_, min}
 use mathlib.Core.Path.{_≡_, refl, sym, ap, _∙_}
 use mathlib.Core.List.{List, [], _∷_, _++_, map, append-assoc}
-use mathlib.Core.Bool.{Bool, true, false, cond, true≢false}
+use mathlib.Core.Bool.{Bool, true, false, cond, _&&_, true≢false}
 use native.Mathlib.Nat.{zero-mul, suc-mul, lt-of-lt-of-le}
 use native.Mathlib.Omega.{arith}
-use borrow.Author.Tests.{eqb-true, eqb-false, le-ltb, lt-leb}
+use borrow.Author.Tests.{ltb-true, ltb-false, eqb-true, eqb-false, le-ltb, lt-leb}
 use lib.Arith.{lt-of-le-ne}
 use lib.ListN.{length, getD, take, drop, length-append, length-map}
 use lib.Seq.{length-take-le, take-at, drop-at, getD-take}
-use lib.Dec.{eqb}
+use lib.Dec.{eqb, ltb}
 use lib.Pow.{pow-mono}
 use Rattle.words.specs.Set.{setOf, has}
 use Rattle.rows.specs.Row.{Row, hasAtom}
 use Rattle.rows.specs.Flat.{widthOf, rowAt, row, maskOf, unpack}
 use Rattle.rows.specs.declared.Atom.{Atom}
+use Rattle.rows.proofs.Rowwise.{has-below}
 use Rattle.rows.proofs.Digits.{atoms-has, atoms-mask, mask-lt, packed-unpack}
 use Rattle.index.specs.Index.{columnWidth, columnOf, indexOf}
 use Rattle.index.specs.Column.{columnUnfit, wantedColumn}
@@ -81,13 +82,38 @@ module _ (n rank : ℕ) (rs : List Row) (ranked : length rs ≡ rank) (rest : Li
       let room : n * columnWidth rank ≤ length written = simp length-append (omega (arith, index-length (columnWidth rank) rs n)) in
       simp (le-ltb 512 n atoms, le-ltb 512 rank ranks, le-ltb _ _ room, over-none rank (columnWidth rank) written n column-below, lt-leb n (a .0) h)
 
-  pub column-bit : n ≤ 512 → rank ≤ 512 → (a : Atom) → a .0 < n → (j : ℕ) → j < rank
-      → has (setOf (wantedColumn written n rank a)) j ≡ getD (columnOf rs (a .0)) j false
-  unfolding wantedColumn
-  column-bit atoms ranks a h j l =
-      let inside : j < length (columnOf rs (a .0)) = omega (arith, length-map rs (λ (r : Row). hasAtom r (a .0))) in
-      ap (λ (k : ℕ). has (setOf (cond (eqb k 0) (row (columnWidth rank) written (a .0)) [])) j) (column-taken atoms ranks a h)
-      ∙ ap (λ (x : ℕ). has x j) (column-set (a .0) h) ∙ mask-has (columnOf rs (a .0)) j inside
+  module _ (atoms : n ≤ 512) (ranks : rank ≤ 512) (a : Atom) (h : a .0 < n) where
+    column-is : wantedColumn written n rank a ≡ row (columnWidth rank) written (a .0)
+    unfolding wantedColumn
+    column-is = ap (λ (k : ℕ). cond (eqb k 0) (row (columnWidth rank) written (a .0)) []) (column-taken atoms ranks a h)
+
+    pub column-length : length (wantedColumn written n rank a) ≡ columnWidth rank
+    column-length = ap length (column-is ∙ index-row (columnWidth rank) rs n (a .0) h rest) ∙ unpack-length 64 (columnWidth rank) _
+
+    pub column-bit : (j : ℕ) → has (setOf (wantedColumn written n rank a)) j ≡ (ltb j rank && getD (columnOf rs (a .0)) j false)
+    column-bit j = ap (λ (l : List ℕ). has (setOf l) j) column-is ∙ go (ltb j rank) refl
+      where
+        x : ℕ
+        x = setOf (row (columnWidth rank) written (a .0))
+
+        go : (b : Bool) → ltb j rank ≡ b → has (setOf (row (columnWidth rank) written (a .0))) j ≡ (b && getD (columnOf rs (a .0)) j false)
+        go true e =
+            let lt = ltb-true j rank e in
+            let inside : j < length (columnOf rs (a .0)) = omega (arith, length-map rs (λ (r : Row). hasAtom r (a .0))) in
+            ap (λ (k : ℕ). has k j) (column-set (a .0) h) ∙ mask-has (columnOf rs (a .0)) j inside
+        go false e = none (has x j) refl
+          where
+            none : (t : Bool) → has x j ≡ t → t ≡ false
+            none true f = let z : ⊥ = omega (arith, ltb-false j rank e, has-below rank x j (column-below (a .0) h) f) in absurd z
+            none false f = refl
+
+-- two tests that differ at most past the rank
+below : {j : ℕ} {x y : Bool} (rank : ℕ) → (j < rank → x ≡ y) → (ltb j rank && x) ≡ (ltb j rank && y)
+below {j} {x} {y} rank same = go (ltb j rank) refl
+  where
+    go : (b : Bool) → ltb j rank ≡ b → (b && x) ≡ (b && y)
+    go true e = same (ltb-true j rank e)
+    go false e = refl
 
 -- ---- the promise
 
@@ -102,19 +128,20 @@ column-tells n m l a number h = of-both n m l (Tells n a) tells number
     tells false e = λ f.
         let o = left n m l in
         let rank = o .result .rank in
-        let few : rank ≤ min m n = rank-few n m (l .rows) (l .constants) (l .basis) (fits .fit .atoms) (fits .basis) in
+        let few : rank ≤ min m n = rank-few n m (l .rows) (l .constants) in
         let named = take rank (o .basis) in
         let rs = basisOf n (o .rows) (o .constants) named in
         let long : rank ≤ length (o .basis) = simp length-append (omega arith) in
         let short : length named ≡ rank = length-take-le rank (o .basis) long in
         let ranked : length rs ≡ rank = length-map named (rowAt n (widthOf n) (o .rows) (o .constants)) ∙ short in
         let rest = drop (n * columnWidth rank) (l .index) in
-        let ranks : rank ≤ 512 = omega (arith, fits .fit .atoms) in (
+        let ranks : rank ≤ 512 = omega (arith, fits .fit .atoms) in
+        let row-at = rowAt n (widthOf n) (o .rows) (o .constants) in (
           column-taken n rank rs ranked rest (fits .fit .atoms) ranks a h,
-          λ j lt.
+          column-length n rank rs ranked rest (fits .fit .atoms) ranks a h,
+          λ j. column-bit n rank rs ranked rest (fits .fit .atoms) ranks a h j ∙ below rank (λ lt.
               let within : j < length named = omega arith in
-              column-bit n rank rs ranked rest (fits .fit .atoms) ranks a h j lt
-              ∙ map-at (λ (r : Row). hasAtom r (a .0)) rs j false (rowAt n (widthOf n) (o .rows) (o .constants) 0) (omega arith)
-              ∙ ap (λ (r : Row). hasAtom r (a .0)) (map-at (rowAt n (widthOf n) (o .rows) (o .constants)) named j (rowAt n (widthOf n) (o .rows) (o .constants) 0) 0 within)
-              ∙ ap (λ (s : ℕ). hasAtom (rowAt n (widthOf n) (o .rows) (o .constants) s) (a .0)) (getD-take rank (o .basis) j 0 lt),
+              map-at (λ (r : Row). hasAtom r (a .0)) rs j false (row-at 0) (omega arith)
+              ∙ ap (λ (r : Row). hasAtom r (a .0)) (map-at row-at named j (row-at 0) 0 within)
+              ∙ ap (λ (s : ℕ). hasAtom (row-at s) (a .0)) (getD-take rank (o .basis) j 0 lt)),
         )

@@ -1,4 +1,4 @@
--- What elimination leaves of a fit system that is not refuted can be read: each basis entry names a fit row.
+-- What elimination leaves can be read: each basis entry names a fit row.
 use Prim.Native.Nat.{ℕ, _+_, _*_, _≤_, _<_, min}
 use mathlib.Core.List.{List, _++_}
 use native.Mathlib.Omega.{arith}
@@ -15,6 +15,11 @@ use Rattle.echelon.proofs.Upto.{rows-sized, rows-length}
 use Rattle.echelon.proofs.Whole.{row-room}
 use Rattle.parity.specs.Named.{Named}
 
+pub rank-few : (n m : ℕ) (ws cs : List ℕ) → length (eliminated n (rowsTo n (widthOf n) ws cs m) .basis) ≤ min m n
+rank-few n m ws cs =
+    let rs = rowsTo n (widthOf n) ws cs m in
+    omega (arith, rank-le n rs (rows-sized n (widthOf n) ws cs m), rank-rows n rs, rows-le n rs, rows-length n (widthOf n) ws cs m)
+
 module _ (n m : ℕ) (ws cs ps : List ℕ) (atoms : n ≤ 512) (room : min m n ≤ length ps) where
   abbrev w : ℕ
   w = widthOf n
@@ -28,18 +33,13 @@ module _ (n m : ℕ) (ws cs ps : List ℕ) (atoms : n ≤ 512) (room : min m n �
   wide : n ≤ w * 64
   wide = omega arith
 
-  pub rank-few : length (st .basis) ≤ min m n
-  rank-few =
-      let rs = rowsTo n (widthOf n) ws cs m in
-      omega (arith, rank-le n rs (rows-sized n (widthOf n) ws cs m), rank-rows n rs, rows-le n rs, rows-length n (widthOf n) ws cs m)
-
   entry : (j : ℕ) → j < length (st .basis) → getD (st .basis ++ drop (length (st .basis)) ps) j 0 < length (st .rows)
   entry j h = rw (List·getD-append (st .basis) (drop (length (st .basis)) ps) 0 j h) (basis-below n (rowsTo n (widthOf n) ws cs m) j h)
 
   pub left-named : Named n (length (st .basis)) (wordsOf w (st .rows) ++ drop (length (st .rows) * w) ws) (st .basis ++ drop (length (st .basis)) ps)
   left-named = record {
     atoms = atoms;
-    ranked = omega (arith, rank-few);
+    ranked = omega (arith, rank-few n m ws cs);
     entries = simp length-append (omega arith);
     within = λ j h.
         let e = entry j h in

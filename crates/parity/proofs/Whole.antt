@@ -1,5 +1,5 @@
 -- `prepare` as a whole: refused with nothing touched, or what follows elimination.
-use Prim.Native.Nat.{ℕ, zero, suc, _*_, _≤_, _<_, min}
+use Prim.Native.Nat.{ℕ, _*_, _≤_, _<_, min}
 use mathlib.Core.Path.{_≡_, refl, sym, ap, _∙_, subst}
 use mathlib.Core.List.{List, _++_}
 use mathlib.Core.Bool.{Bool, true, false}
@@ -9,22 +9,18 @@ use borrow.Author.Tests.{ltb-false, le-ltb}
 use lib.ListN.{length, getD, take, drop}
 use lib.Dec.{ltb}
 use Rattle.rows.specs.Flat.{widthOf}
+use Rattle.fit.specs.Refusal.{orRefused}
 use Rattle.fit.proofs.Among.{or-none}
-use Rattle.fit.proofs.Fitting.{Fit, joined-fit, fit-joined}
+use Rattle.fit.proofs.Fitting.{Fit, joined-fit, fit-joined, refused-is}
 use Rattle.index.specs.Index.{columnWidth, indexOf, incidencesOf}
 use Rattle.echelon.specs.Forward.{State, eliminated}
 use Rattle.echelon.specs.Eliminate.{Outcome, outcome, rowsTo, written, eliminateUnfit, eliminateOf}
 use Rattle.echelon.specs.declared.Eliminated.{Eliminated}
 use Rattle.echelon.proofs.Whole.{done-is}
 use Rattle.parity.specs.Basis.{basisOf, unitsOf, unitAtoms, unitValues}
-use Rattle.parity.specs.Prepare.{Lent, lent, listsShort, prepareUnfit, toldOf, followed, unless, prepareOf}
-use Rattle.parity.specs.declared.Prepared.{Prepared}
+use Rattle.parity.specs.Prepare.{Lent, lent, listsShort, prepareUnfit, toldOf, followed, refused, prepareOf}
 use Rattle.parity.specs.Named.{Named}
 use Rattle.parity.proofs.Usable.{rank-few, left-named, left-constants}
-
-refused : (k : ℕ) (o : Prepared × Lent) (l : Lent) → (k ≡ 0 → ⊥) → (toldOf k 0 0 0 false 0 0 0, l) ≡ unless k o l
-refused zero o l ne = absurd (ne refl)
-refused (suc k) o l ne = refl
 
 -- what is not refused has room
 pub record Room (n m : ℕ) (l : Lent) : Type 0 where
@@ -41,9 +37,10 @@ module _ (n m : ℕ) (l : Lent) (k : ℕ) (is : k ≡ prepareUnfit n m l) where
   left : Outcome
   left = written (widthOf n) st (l .rows) (l .constants) (l .basis)
 
-  pub refused-is : (k ≡ 0 → ⊥) → (toldOf k 0 0 0 false 0 0 0, l) ≡ prepareOf n m l
+  pub not-fit : (k ≡ 0 → ⊥) → refused l k ≡ prepareOf n m l
   unfolding prepareOf st left
-  refused-is ne = refused k (followed (st .refuted) n m l left) l ne ∙ ap (λ (j : ℕ). unless j (followed (st .refuted) n m l left) l) is
+  not-fit ne =
+      refused-is k (followed (st .refuted) n m l left) (refused l) ne ∙ ap (λ (j : ℕ). orRefused j (followed (st .refuted) n m l left) (refused l)) is
 
   module _ (e : k ≡ 0) where
     pub room : Room n m l
@@ -73,7 +70,7 @@ module _ (n m : ℕ) (l : Lent) (k : ℕ) (is : k ≡ prepareUnfit n m l) where
       unfolding prepareOf st left
       whole =
           ap (λ (o : Outcome). followed (o .result .refuted) n m l o) left-is
-          ∙ ap (λ (j : ℕ). unless j (followed (st .refuted) n m l left) l) (sym e ∙ is)
+          ∙ ap (λ (j : ℕ). orRefused j (followed (st .refuted) n m l left) (refused l)) (sym e ∙ is)
 
       pub refuted-is : done .refuted ≡ true
           → (toldOf 0 n m (done .rank) true (done .additions) 0 0, lent ws cs ps (l .unit-atoms) (l .unit-values) (l .index)) ≡ prepareOf n m l
@@ -92,7 +89,7 @@ module _ (n m : ℕ) (l : Lent) (k : ℕ) (is : k ≡ prepareUnfit n m l) where
 
       pub rank-least : done .rank ≤ min m n
       unfolding left st
-      rank-least = subst (λ (o : Outcome). o .result .rank ≤ min m n) (sym left-is) (rank-few n m (l .rows) (l .constants) (l .basis) (room .fit .atoms) (room .basis))
+      rank-least = subst (λ (o : Outcome). o .result .rank ≤ min m n) (sym left-is) (rank-few n m (l .rows) (l .constants))
 
       pub index-room : n * columnWidth (done .rank) ≤ length (l .index)
       index-room =

@@ -1,21 +1,16 @@
 -- The basis rows, and the units among them. Here rows stand in basis order, so that place j is ordinal j.
-use Prim.Native.Nat.{ℕ, suc}
+use Prim.Native.Nat.{ℕ}
 use mathlib.Core.List.{List, [], _∷_, map}
-use mathlib.Core.Bool.{Bool, true, false, cond}
+use mathlib.Core.Bool.{cond}
 use lib.Dec.{eqb}
 use Rattle.rows.specs.Row.{Row}
 use Rattle.rows.specs.Flat.{widthOf, rowAt}
+use Rattle.echelon.specs.Forward.{low}
 use Rattle.index.specs.Index.{size}
 
 -- The rows over n atoms that the entries of a basis name.
 abbrev pub basisOf : ℕ → List ℕ → List ℕ → List ℕ → List Row
 basisOf n ws cs entries = map (rowAt n (widthOf n) ws cs) entries
-
--- The lowest atom of a set that has one.
-abbrev pub low : List Bool → ℕ
-low [] = 0
-low (true ∷ r) = 0
-low (false ∷ r) = suc (low r)
 
 -- "units are the basis rows of one atom, in basis order"
 abbrev pub unitsOf : List Row → List Row

@@ -1,11 +1,11 @@
 -- What `prepare` answers and leaves in the memory lent to it, for fit and unfit input.
-use Prim.Native.Nat.{ℕ, zero, suc, _*_, min}
+use Prim.Native.Nat.{ℕ, _*_, min}
 use mathlib.Core.List.{List, [], _∷_, _++_}
 use mathlib.Core.Bool.{Bool, true, false, _||_}
 use lib.ListN.{length, take, drop}
 use lib.Dec.{ltb}
 use Rattle.rows.specs.Flat.{widthOf}
-use Rattle.fit.specs.Refusal.{refusal}
+use Rattle.fit.specs.Refusal.{refusal, orRefused}
 use Rattle.fit.specs.Rows.{overfull, short, strays}
 use Rattle.echelon.specs.Forward.{eliminated}
 use Rattle.echelon.specs.Eliminate.{Outcome, rowsTo, written}
@@ -52,7 +52,7 @@ toldOf number atoms rows rank refuted additions units incidences = record {
 }
 
 -- "A row left empty with constant 1 ends preparation as refuted: basis and counts so far stand, units and index are not written and their
--- counts are 0. Otherwise units .. and the index follow." Words and entries past those named are untouched.
+-- counts are 0. Otherwise units are the basis rows of one atom, in basis order, and the index follows." Words and entries past those named are untouched.
 abbrev pub followed : Bool → ℕ → ℕ → Lent → Outcome → Prepared × Lent
 followed true n m l o = (
   toldOf 0 n m (o .result .rank) true (o .result .additions) 0 0,
@@ -69,12 +69,11 @@ followed false n m l o =
     )
 
 -- "a refused call returns its number, 0 in every other field", and all lent memory stands.
-abbrev pub unless : ℕ → Prepared × Lent → Lent → Prepared × Lent
-unless zero o l = o
-unless (suc k) o l = (toldOf (suc k) 0 0 0 false 0 0 0, l)
+abbrev pub refused : Lent → ℕ → Prepared × Lent
+refused l number = (toldOf number 0 0 0 false 0 0 0, l)
 
 unfoldable pub prepareOf : ℕ → ℕ → Lent → Prepared × Lent
 unfolding prepareUnfit
 prepareOf n m l =
     let st = eliminated n (rowsTo n (widthOf n) (l .rows) (l .constants) m) in
-    unless (prepareUnfit n m l) (followed (st .refuted) n m l (written (widthOf n) st (l .rows) (l .constants) (l .basis))) l
+    orRefused (prepareUnfit n m l) (followed (st .refuted) n m l (written (widthOf n) st (l .rows) (l .constants) (l .basis))) (refused l)

@@ -1,9 +1,10 @@
 -- The theorems of `parity`, as statements about what `prepare` answers and leaves, for every memory lent to it; src/promises.rt holds each.
-use Prim.Native.Nat.{ℕ, _-_, _^_, _≤_, _<_}
+use Prim.Native.Nat.{ℕ, _-_, _^_, _≤_, _<_, min}
 use mathlib.Core.Path.{_≡_}
 use mathlib.Core.List.{List}
-use mathlib.Core.Bool.{Bool, true, false}
-use lib.ListN.{getD, take}
+use mathlib.Core.Bool.{Bool, true, false, _&&_}
+use lib.ListN.{length, getD, take}
+use lib.Dec.{ltb}
 use Rattle.words.specs.Set.{setOf, has}
 use Rattle.rows.specs.Row.{Row, Assignment, hasAtom, meetsAll, sumOf}
 use Rattle.rows.specs.Flat.{widthOf, rowAt}
@@ -11,6 +12,7 @@ use Rattle.rows.specs.Count.{count}
 use Rattle.rows.specs.declared.Atom.{Atom}
 use Rattle.echelon.specs.Eliminate.{rowsTo}
 use Rattle.echelon.specs.Promises.{Lowest}
+use Rattle.index.specs.Index.{columnWidth}
 use Rattle.index.specs.Column.{columnUnfit, wantedColumn}
 use Rattle.parity.specs.Basis.{basisOf}
 use Rattle.parity.specs.Prepare.{Lent, prepareOf}
@@ -38,13 +40,13 @@ Keeps n rs x p =
 abbrev pub PrepareKeeps : Type 0
 PrepareKeeps = (n m : ℕ) (l : Lent) (x : Assignment) → prepareOf n m l .0 .number ≡ 0 → Keeps n (handedIn n m l) x (prepareOf n m l)
 
--- Sound means solvable, with 2^(n - rank) solutions.
-abbrev pub Counts : ℕ → List Row → Prepared × Lent → Type 0
-Counts n rs p =
-    (p .0 .system .rank ≤ n) × (p .0 .system .refuted ≡ false → count n (meetsAll rs) ≡ 2 ^ (n - p .0 .system .rank))
+-- Sound means solvable, with 2^(n - rank) solutions; the rank is at most min(m, n).
+abbrev pub Counts : ℕ → ℕ → List Row → Prepared × Lent → Type 0
+Counts n m rs p =
+    (p .0 .system .rank ≤ min m n) × (p .0 .system .refuted ≡ false → count n (meetsAll rs) ≡ 2 ^ (n - p .0 .system .rank))
 
 abbrev pub PrepareCounts : Type 0
-PrepareCounts = (n m : ℕ) (l : Lent) → prepareOf n m l .0 .number ≡ 0 → Counts n (handedIn n m l) (prepareOf n m l)
+PrepareCounts = (n m : ℕ) (l : Lent) → prepareOf n m l .0 .number ≡ 0 → Counts n m (handedIn n m l) (prepareOf n m l)
 
 -- "A new lowest atom makes the row a pivot": each basis entry names one of the m rows, that row has a lowest atom, and no two have the same.
 abbrev pub Pivots : ℕ → ℕ → Prepared × Lent → Type 0
@@ -64,13 +66,15 @@ abbrev pub PrepareSums : Type 0
 PrepareSums = (n m : ℕ) (l : Lent) → prepareOf n m l .0 .number ≡ 0 → Sums n m (handedIn n m l) (prepareOf n m l)
 
 -- "bit j of atom a's column is set when basis row j has a": with the index that preparation wrote, the column of an atom below n is not
--- refused (so none has a bit at or above the rank), and its bit j says just that.
+-- refused, it has a column's words, and its bits say just that.
 abbrev pub Tells : ℕ → Atom → Prepared × Lent → Type 0
 Tells n a p =
+    let rank = p .0 .system .rank in
+    let column = wantedColumn (p .1 .index) n rank a in
     p .0 .system .refuted ≡ false
-    → (columnUnfit (p .1 .index) n (p .0 .system .rank) a ≡ 0)
-    × ((j : ℕ) → j < p .0 .system .rank
-    → has (setOf (wantedColumn (p .1 .index) n (p .0 .system .rank) a)) j ≡ hasAtom (rowLeft n p (getD (p .1 .basis) j 0)) (a .0))
+    → (columnUnfit (p .1 .index) n rank a ≡ 0)
+    × (length column ≡ columnWidth rank)
+    × ((j : ℕ) → has (setOf column) j ≡ (ltb j rank && hasAtom (rowLeft n p (getD (p .1 .basis) j 0)) (a .0)))
 
 abbrev pub ColumnTells : Type 0
 ColumnTells = (n m : ℕ) (l : Lent) (a : Atom) → prepareOf n m l .0 .number ≡ 0 → a .0 < n → Tells n a (prepareOf n m l)

@@ -13,16 +13,6 @@ ghost use Rattle.parity.specs.Basis.{basisOf};
 ghost use Rattle.parity.specs.Named.{Named};
 ghost use Rattle.parity.specs.Entered.{Reaches, Entered};
 
-fn clear(columns: &mut [u64])
-    ensures { λ _. ⌜ now (columns .exit) ≡ replicate (length (now (columns .entry))) 0 ⌝ }
-{
-    let mut i = 0;
-    while i < columns.len() {
-        columns[i] = 0;
-        i += 1;
-    }
-}
-
 // Sets a bit of word `at` in the columns of the atoms of one word, whose first atom is `base`.
 fn enter_word(index: &mut [u64], stride: usize, at: usize, bit: u64, base: usize, word: u64)
     requires { ⌜ (at < stride) × Reaches stride (word * 2 ^ base) (length (now index)) ⌝ }
@@ -37,7 +27,7 @@ fn enter_word(index: &mut [u64], stride: usize, at: usize, bit: u64, base: usize
     }
 }
 
-// Sets a bit in the columns of the atoms of one row, and says how many atoms that are.
+// Sets a bit in the columns of the atoms of one row, and says how many atoms it has.
 fn enter_row(index: &mut [u64], stride: usize, place: Place, words: &[u64]) -> usize
     requires { ⌜ (place .word < stride) × (length (now words) ≤ 8) × Reaches stride (setOf (now words)) (length (now index)) ⌝ }
     ensures count { λ r. ⌜ r ≡ ones (setOf (now (words .entry))) ⌝ }
@@ -93,7 +83,7 @@ fn enter_rows(
     ensures incidences { λ r. ⌜ ((cs : List ℕ) → r ≡ incidencesOf (basisOf n (now (rows .entry)) cs (take rank (now (basis .entry)))) n) ⌝ }
     ensures index { λ _. ⌜ ((cs : List ℕ) → now (index .exit) ≡ indexOf stride (basisOf n (now (rows .entry)) cs (take rank (now (basis .entry)))) n) ⌝ }
 {
-    clear(index);
+    words::clear(index);
     let width = rows::width(n);
     let mut incidences: usize = 0;
     let mut j = 0;
@@ -110,7 +100,7 @@ pub fn build_index(n: usize, rank: usize, rows: &[u64], basis: &[usize], index: 
     ensures incidences { λ r. ⌜ ((cs : List ℕ) → r ≡ incidencesOf (basisOf n (now (rows .entry)) cs (take rank (now (basis .entry)))) n) ⌝ }
     ensures index { λ _. ⌜ ((cs : List ℕ) → now (index .exit) ≡ indexOf (columnWidth rank) (basisOf n (now (rows .entry)) cs (take rank (now (basis .entry)))) n ++ drop (n * columnWidth rank) (now (index .entry))) ⌝ }
 {
-    let stride = (rank + 127) / 128 * 2;
+    let stride = index::column_width(rank);
     let end = n * stride;
     enter_rows(n, rank, rows, basis, &mut index[..end], stride)
 }

@@ -26,6 +26,7 @@ pub struct Prepared {
     pub incidences: usize,
 }
 
+// A result by its fields.
 fn told(
     number: usize,
     atoms: usize,

@@ -23,7 +23,7 @@ atomsOf (suc n) x = odd x ∷ atomsOf n (x / 2)
 unfoldable pub rowAt : ℕ → ℕ → List ℕ → List ℕ → ℕ → Row
 rowAt n w ws cs r = record { atoms = atomsOf n (setOf (row w ws r)); constant = eqb (getD cs r 0) 1 }
 
--- And back: the set of a row's atoms, and a set as w words of k atomsOf.
+-- And back: the set of a row's atoms, and a set as w words of k atoms.
 unfoldable pub maskOf : List Bool → ℕ
 maskOf [] = 0
 maskOf (b ∷ r) = maskOf r * 2 + cond b 1 0

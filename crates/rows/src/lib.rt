@@ -95,6 +95,7 @@ pub fn row(rows: &[u64], width: usize, number: Source) -> &[u64]
     part(rows, width, number.0)
 }
 
+// A row's lowest atom; words above it are not read.
 pub fn lowest_atom(rows: &[u64], width: usize, number: Source) -> Lowest
     ensures { λ r. ⌜ r ≡ lowestOf width (now (rows .entry)) number ⌝ }
 {

@@ -3,7 +3,7 @@
 // nothing is changed and the answer says so; specs/Calls.antt has each call's definition.
 ghost use mathlib.Core.Path.{_≡_};
 ghost use Prim.Native.Nat.{_/_};
-ghost use lib.ListN.{length};
+ghost use lib.ListN.{length, replicate};
 ghost use lib.Dec.{eqb, ltb};
 ghost use lib.Bits.{bitOr, bitXor};
 ghost use lib.Count.{ones};
@@ -117,6 +117,17 @@ pub fn insert(words: &mut [u64], atom: usize) -> bool
     }
     words[word] = words[word] | place.bit;
     true
+}
+
+// Takes every atom out.
+pub fn clear(words: &mut [u64])
+    ensures { λ _. ⌜ now (words .exit) ≡ replicate (length (now (words .entry))) 0 ⌝ }
+{
+    let mut i = 0;
+    while i < words.len() {
+        words[i] = 0;
+        i += 1;
+    }
 }
 
 // Adds the atoms of `right` to `left`, and says whether the two are of one length.

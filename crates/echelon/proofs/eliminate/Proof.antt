@@ -4,7 +4,7 @@ use mathlib.Core.Path.{refl, ap, _∙_}
 use lib.ListN.{length-replicate}
 use Rattle.echelon.specs.Forward.{eliminated}
 use Rattle.echelon.specs.Eliminate.{rowsTo, written}
-use Rattle.echelon.proofs.Whole.{fit-clean, refused-is, done-is, fit-here}
+use Rattle.echelon.proofs.Whole.{fit-clean, not-fit, done-is, fit-here}
 use borrow.Author.Needs.{needs}
 use Rattle.echelon.proofs.eliminate.Statement.{statement}
 use Rattle.echelon.proofs.eliminate.Tie as tie
@@ -25,7 +25,7 @@ returns : tie.Need-returns
 returns c =
     let call = c .before in
     let a = call .before .before .before .before .before .before .before .args in
-    refused-is (a .n) (a .m) (a .rows .now) (a .constants .now) (a .basis .now) _ (call .unfit .ensures) (c .if1 .taken)
+    not-fit (a .n) (a .m) (a .rows .now) (a .constants .now) (a .basis .now) _ (call .unfit .ensures) (c .if1 .taken)
 
 width-requires : tie.Need-width-requires
 width-requires c κs = search needs

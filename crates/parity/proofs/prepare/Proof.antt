@@ -3,7 +3,7 @@ use mathlib.Core.Path.{ap, _∙_}
 use native.Mathlib.Omega.{arith}
 use Rattle.parity.specs.Prepare.{Lent, lent}
 use Rattle.parity.specs.declared.Prepared.{Prepared}
-use Rattle.parity.proofs.Whole.{Room, room, refused-is, refuted-is, named, constants-fit, rank-least, index-room, sound-is}
+use Rattle.parity.proofs.Whole.{Room, room, not-fit, refuted-is, named, constants-fit, rank-least, index-room, sound-is}
 use borrow.Author.Needs.{needs}
 use Rattle.parity.proofs.prepare.Statement.{statement}
 use Rattle.parity.proofs.prepare.Tie as tie
@@ -45,7 +45,7 @@ returns : tie.Need-returns
 returns c =
     let call = c .before .before in
     let a = startOf call .args in
-    ap (λ (r : Prepared). (r, lentTo call)) (c .told .ensures) ∙ refused-is (a .n) (a .m) (lentTo call) _ (call .unfit .ensures) (c .before .if1 .taken)
+    ap (λ (r : Prepared). (r, lentTo call)) (c .told .ensures) ∙ not-fit (a .n) (a .m) (lentTo call) _ (call .unfit .ensures) (c .before .if1 .taken)
 
 eliminate-requires : tie.Need-eliminate-requires
 eliminate-requires c κs = search needs
