@@ -1,4 +1,5 @@
 // Forward elimination in place: the first part of `prepare` of parity.rs, over flat lent words.
+use rows::Atom;
 use rows::Source;
 ghost use mathlib.Core.Path.{_≡_};
 ghost use mathlib.Core.Bool.{cond, _&&_};
@@ -30,19 +31,20 @@ fn enter(
     rank: usize,
     number: Source,
     head: u64,
-    lowest: usize,
+    lowest: Atom,
 ) -> usize
-    requires { ⌜ (0 < head → (lowest < length (now heads)) × (lowest < length (now sources)) × (rank < length (now basis))) ⌝ }
+    requires { ⌜ (0 < head → (lowest .0 < length (now heads)) × (lowest .0 < length (now sources)) × (rank < length (now basis))) ⌝ }
     ensures rank { λ r. ⌜ r ≡ cond (eqb head 0) rank (rank + 1) ⌝ }
-    ensures heads { λ _. ⌜ now (heads .exit) ≡ cond (eqb head 0) (now (heads .entry)) (set (now (heads .entry)) lowest head) ⌝ }
-    ensures sources { λ _. ⌜ now (sources .exit) ≡ cond (eqb head 0) (now (sources .entry)) (set (now (sources .entry)) lowest (number .0)) ⌝ }
+    ensures heads { λ _. ⌜ now (heads .exit) ≡ cond (eqb head 0) (now (heads .entry)) (set (now (heads .entry)) (lowest .0) head) ⌝ }
+    ensures sources { λ _. ⌜ now (sources .exit) ≡ cond (eqb head 0) (now (sources .entry)) (set (now (sources .entry)) (lowest .0) (number .0)) ⌝ }
     ensures basis { λ _. ⌜ now (basis .exit) ≡ cond (eqb head 0) (now (basis .entry)) (set (now (basis .entry)) rank (number .0)) ⌝ }
 {
     if head == 0 {
         return rank;
     }
-    heads[lowest] = head;
-    sources[lowest] = number.0;
+    let atom = lowest.0;
+    heads[atom] = head;
+    sources[atom] = number.0;
     basis[rank] = number.0;
     rank + 1
 }

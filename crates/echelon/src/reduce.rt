@@ -1,6 +1,7 @@
 // One row reduced: "while a row has a lowest atom whose pivot is an earlier row, that row is added". The directory has, for each atom with a
 // pivot, the pivot's number and its word with that atom (its head); the word under work stays in a local, and only later words are added
 // in memory.
+use rows::Atom;
 use rows::Source;
 ghost use mathlib.Core.Path.{_≡_};
 ghost use Prim.Native.Nat.{_+_, _*_, _≤_, _<_};
@@ -17,7 +18,7 @@ struct LeftWord {
 // A row as it is left: its lowest atom and the word that has it (0 where the row is empty), and the additions that it took.
 pub struct LeftRow {
     pub head: u64,
-    pub lowest: usize,
+    pub lowest: Atom,
     pub additions: usize,
 }
 
@@ -94,7 +95,7 @@ pub fn reduce_row(
     sources: &[usize],
 ) -> LeftRow
     requires { ⌜ (width ≤ 8) × (n ≤ width * 64) × Clean n width (number .0) (now rows) (now constants) × Directory n width (number .0) (now rows) (now constants) (now heads) (now sources) ⌝ }
-    ensures { λ r. ⌜ Finished n width (number .0) (now (rows .entry)) (now (constants .entry)) (now (rows .exit)) (now (constants .exit)) (r .head) (r .lowest) (r .additions) ⌝ }
+    ensures { λ r. ⌜ Finished n width (number .0) (now (rows .entry)) (now (constants .entry)) (now (rows .exit)) (now (constants .exit)) (r .head) (r .lowest .0) (r .additions) ⌝ }
 {
     let mut i = 0;
     let mut additions = 0;
@@ -104,7 +105,7 @@ pub fn reduce_row(
         if left.word != 0 {
             return LeftRow {
                 head: left.word,
-                lowest: i * 64 + u64::trailing_zeros(left.word) as usize,
+                lowest: Atom(i * 64 + u64::trailing_zeros(left.word) as usize),
                 additions: additions,
             };
         }
@@ -112,7 +113,7 @@ pub fn reduce_row(
     }
     LeftRow {
         head: 0,
-        lowest: 0,
+        lowest: Atom(0),
         additions: additions,
     }
 }

@@ -12,7 +12,7 @@ returns : tie.Need-returns
 returns c = simp (eq-eqb _ _ (c .if1 .taken)) (refl, (refl, (refl, refl)))
 
 room : (c : tie.Else1)
-    → (c .before .args .lowest < length (c .before .args .heads .now)) × (c .before .args .lowest < length (c .before .args .sources .now)) × (c .before .args .rank < length (c .before .args .basis .now))
+    → (c .before .args .lowest .0 < length (c .before .args .heads .now)) × (c .before .args .lowest .0 < length (c .before .args .sources .now)) × (c .before .args .rank < length (c .before .args .basis .now))
 room c = c .before .pre (omega (arith, c .if1 .left))
 
 mul-heads : tie.Need-mul-heads
