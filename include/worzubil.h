@@ -67,6 +67,9 @@ bool worzubil_contains(const uint64_t *words, size_t words_length, size_t atom);
 /* Adds the atom: true. words: more than atom / 64 words; a shorter one stays as it is: false. */
 bool worzubil_insert(uint64_t *words, size_t words_length, size_t atom);
 
+/* Takes every atom out. words: any length. */
+void worzubil_clear(uint64_t *words, size_t words_length);
+
 /* Adds the atoms of right to left: true. Both of one length; where they differ, left stays as it is: false. */
 bool worzubil_union_assign(uint64_t *left, size_t left_length, const uint64_t *right, size_t right_length);
 
@@ -150,6 +153,47 @@ worzubil_proposal worzubil_propose(size_t k, const uint64_t *forbidden, size_t f
    the count is at most 8. */
 bool worzubil_write(worzubil_hull hull, const size_t *names, size_t names_length, size_t width, uint64_t *rows, size_t rows_length,
                     uint8_t *constants, size_t constants_length, size_t first);
+
+/* ---- systems */
+
+/* A system as preparation leaves it. */
+typedef struct {
+    size_t atoms;
+    size_t rows;
+    size_t rank;  /* the rows in the basis */
+    bool refuted; /* a row was left empty with constant 1 */
+} worzubil_system;
+
+/* `number` is 0, or 10, 9 or 11 and all else is 0. */
+typedef struct {
+    size_t number;
+    worzubil_system system;
+    size_t additions;
+    size_t units;      /* the basis rows of one atom */
+    size_t incidences; /* the bits set in the index */
+} worzubil_prepared;
+
+/* Prepares m rows over n atoms in place. Each row, from the first on, is added to as long as its lowest atom is that of an earlier row;
+ * if it keeps an atom, its number is the next entry of the basis. The basis rows of one atom are then listed, atoms and values apart, and
+ * the index gets n columns of 2 * ceil(rank / 128) words: bit j of an atom's column is set where the row of basis[j] has the atom. A row
+ * left empty with constant 1 refutes the system: the rows after it stand, and units and index are not written.
+ * rows: m * ceil(n / 64) words; constants: m bytes; basis, unit_atoms and unit_values: min(m, n) elements; index:
+ * n * 2 * ceil(min(m, n) / 128) words. What lies past that is neither read nor written, nor are entries past the rank, units past their
+ * count or words past the n columns.
+ * Refused, and nothing touched: 10 where n or m is above 512; 9 where a buffer is shorter; 11 where one of the m rows has a bit at n or
+ * above, or a constant above 1. */
+worzubil_prepared worzubil_prepare(size_t n, size_t m, uint64_t *rows, size_t rows_length, uint8_t *constants,
+                                   size_t constants_length, size_t *basis, size_t basis_length, size_t *unit_atoms,
+                                   size_t unit_atoms_length, uint8_t *unit_values, size_t unit_values_length, uint64_t *index,
+                                   size_t index_length);
+
+/* Where the column of an atom lies: `length` words from index[start] on. index: n * 2 * ceil(rank / 128) words. WORZUBIL_UNFIT where
+ * worzubil_column_number is not 0. */
+worzubil_span worzubil_column(const uint64_t *index, size_t index_length, size_t n, size_t rank, size_t atom);
+
+/* The number under which that column is refused, or 0: 10 where n or rank is above 512; 9 where the index is shorter; 14 where one of its
+ * n columns has a bit at the rank or above; 18 where the atom is not below n. */
+size_t worzubil_column_number(const uint64_t *index, size_t index_length, size_t n, size_t rank, size_t atom);
 
 #ifdef __cplusplus
 }

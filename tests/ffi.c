@@ -5,7 +5,7 @@
 
 #include "worzubil.h"
 
-enum { GUARD = 4, MOST = 64 };
+enum { GUARD = 8, LIMIT = 512, MOST = LIMIT * 8 + 2 };
 #define CANARY 0xa5c35a3c96f01e87u
 #define TOO_MANY ((size_t)1 << 58)
 
@@ -22,8 +22,10 @@ typedef struct {
     size_t n;
 } lent_bytes;
 
-static lent left, right, rows, mask, basis;
-static lent_bytes constants;
+static lent left, right, rows, mask, basis, unit_atoms, marks;
+static lent_bytes constants, unit_values;
+static bool bits[LIMIT][LIMIT]; /* of the rows, by row and atom */
+static size_t lows[LIMIT];      /* the lowest atom of each row, or n */
 static unsigned long checks, round_number;
 static uint64_t state = 0x9e3779b97f4a7c15u;
 
@@ -69,23 +71,23 @@ static uint64_t *at(lent *b) { return b->cells + GUARD; }
 
 static void fill(lent *b, size_t n) {
     b->n = n;
-    for (size_t i = 0; i < GUARD + MOST + GUARD; i++) b->cells[i] = CANARY;
+    for (size_t i = 0; i < GUARD + n + GUARD; i++) b->cells[i] = CANARY;
     for (size_t i = 0; i < n; i++) at(b)[i] = b->want[i] = any_word();
 }
 
 static void held(const char *call, const lent *b) {
-    for (size_t i = 0; i < GUARD + MOST + GUARD; i++)
+    for (size_t i = 0; i < GUARD + b->n + GUARD; i++)
         check(call, "a cell", i >= GUARD && i - GUARD < b->n ? b->want[i - GUARD] : CANARY, b->cells[i]);
 }
 
 static void fill_bytes(lent_bytes *b, size_t n) {
     b->n = n;
-    for (size_t i = 0; i < GUARD + MOST + GUARD; i++) b->cells[i] = (uint8_t)CANARY;
+    for (size_t i = 0; i < GUARD + n + GUARD; i++) b->cells[i] = (uint8_t)CANARY;
     for (size_t i = 0; i < n; i++) b->cells[GUARD + i] = b->want[i] = (uint8_t)any();
 }
 
 static void held_bytes(const char *call, const lent_bytes *b) {
-    for (size_t i = 0; i < GUARD + MOST + GUARD; i++)
+    for (size_t i = 0; i < GUARD + b->n + GUARD; i++)
         check(call, "a byte", i >= GUARD && i - GUARD < b->n ? b->want[i - GUARD] : (uint8_t)CANARY, b->cells[i]);
 }
 
@@ -113,6 +115,88 @@ static size_t lowest(const uint64_t *a, size_t n) {
 
 static bool lies_within(size_t words, size_t width, size_t number) {
     return (unsigned __int128)number * width + width <= words;
+}
+
+static size_t width_of(size_t atoms) { return (atoms + 63) / 64; }
+
+static size_t stride_of(size_t rank) { return (rank + 127) / 128 * 2; }
+
+static size_t least(size_t a, size_t b) { return a < b ? a : b; }
+
+static void put(lent *b, size_t place, uint64_t word) { at(b)[place] = b->want[place] = word; }
+
+/* Why m rows over n atoms cannot be prepared in the wanted buffers, or 0. */
+static size_t prepare_number(size_t n, size_t m) {
+    if (n > LIMIT || m > LIMIT) return 10;
+    size_t width = width_of(n), places = least(n, m);
+    if (rows.n < m * width || constants.n < m || basis.n < places || unit_atoms.n < places || unit_values.n < places ||
+        marks.n < n * stride_of(places))
+        return 9;
+    for (size_t r = 0; r < m; r++) {
+        if (constants.want[r] > 1) return 11;
+        for (size_t a = n; a < width * 64; a++)
+            if (bit_of(rows.want + r * width, a)) return 11;
+    }
+    return 0;
+}
+
+/* Reduces row r, of which each earlier one is reduced; says how many rows were added. */
+static size_t reduce(size_t n, size_t r) {
+    for (size_t additions = 0;; additions++) {
+        size_t source = 0;
+        lows[r] = 0;
+        while (lows[r] < n && !bits[r][lows[r]]) lows[r]++;
+        while (source < r && lows[source] != lows[r]) source++;
+        if (lows[r] == n || source == r) return additions;
+        for (size_t a = 0; a < n; a++) bits[r][a] ^= bits[source][a];
+        constants.want[r] ^= constants.want[source];
+    }
+}
+
+/* What preparation must answer, and leave in the wanted buffers. */
+static worzubil_prepared prepared(size_t n, size_t m) {
+    worzubil_prepared want = {.number = prepare_number(n, m)};
+    if (want.number != 0) return want;
+    size_t width = width_of(n), rank = 0;
+    want.system.atoms = n;
+    want.system.rows = m;
+    for (size_t r = 0; r < m; r++)
+        for (size_t a = 0; a < n; a++) bits[r][a] = bit_of(rows.want + r * width, a);
+    for (size_t r = 0; r < m && !want.system.refuted; r++) {
+        want.additions += reduce(n, r);
+        for (size_t i = 0; i < width; i++) rows.want[r * width + i] = 0;
+        for (size_t a = 0; a < n; a++) rows.want[r * width + a / 64] |= (uint64_t)bits[r][a] << (a % 64);
+        if (lows[r] < n) basis.want[rank++] = r;
+        want.system.refuted = lows[r] == n && constants.want[r] == 1;
+    }
+    want.system.rank = rank;
+    if (want.system.refuted) return want;
+    size_t stride = stride_of(rank);
+    for (size_t i = 0; i < n * stride; i++) marks.want[i] = 0;
+    for (size_t j = 0; j < rank; j++) {
+        size_t source = basis.want[j], atoms = 0;
+        for (size_t a = 0; a < n; a++) {
+            if (!bits[source][a]) continue;
+            marks.want[a * stride + j / 64] |= (uint64_t)1 << (j % 64);
+            atoms++;
+        }
+        want.incidences += atoms;
+        if (atoms != 1) continue;
+        unit_atoms.want[want.units] = lows[source];
+        unit_values.want[want.units++] = constants.want[source];
+    }
+    return want;
+}
+
+/* Why the column of an atom is refused, or 0. */
+static size_t column_number(size_t n, size_t rank, size_t atom) {
+    if (n > LIMIT || rank > LIMIT) return 10;
+    size_t stride = stride_of(rank);
+    if (marks.n < n * stride) return 9;
+    for (size_t a = 0; a < n; a++)
+        for (size_t j = rank; j < stride * 64; j++)
+            if (bit_of(marks.want + a * stride, j)) return 14;
+    return atom < n ? 0 : 18;
 }
 
 /* ---- the calls */
@@ -180,6 +264,10 @@ static void changed(void) {
     check("xor_assign", "the answer", same, worzubil_xor_assign(at(&left), n, at(&right), right.n));
     held("xor_assign", &left);
     held("xor_assign", &right);
+
+    for (size_t i = 0; i < n; i++) left.want[i] = 0;
+    worzubil_clear(at(&left), n);
+    held("clear", &left);
 }
 
 static void of_rows(void) {
@@ -231,6 +319,79 @@ static void of_places(void) {
     held("source_at", &basis);
 }
 
+/* A column of the index that the marks hold, and then of one with a bit too many, or of another size. */
+static void of_column(size_t n, size_t rank) {
+    size_t atom = around(n);
+    if (marks.n > 0 && below(8) == 0) put(&marks, below(marks.n), any_word());
+    if (below(20) == 0) *(below(2) ? &n : &rank) = around(LIMIT);
+    size_t number = column_number(n, rank, atom), stride = number == 0 ? stride_of(rank) : 0;
+    check("column_number", "the number", number, worzubil_column_number(at(&marks), marks.n, n, rank, atom));
+    worzubil_span span = worzubil_column(at(&marks), marks.n, n, rank, atom);
+    check("column", "the kind", number == 0 ? WORZUBIL_ANSWERED : WORZUBIL_UNFIT, span.kind);
+    check("column", "the start", number == 0 ? atom * stride : 0, span.start);
+    check("column", "the length", stride, span.length);
+    held("column", &marks);
+}
+
+/* A number of atoms or rows: mostly small, at times about a border. */
+static size_t any_size(void) {
+    switch (below(30)) {
+    case 0: return 63 + below(3);
+    case 1: return 127 + below(3);
+    case 2: return below(40) ? below(300) : LIMIT - 1 + below(3);
+    default: return below(12);
+    }
+}
+
+/* A length that is enough, now and then by one, and seldom one too few. */
+static size_t about(size_t enough) { return below(40) ? enough + (below(4) == 0) : enough - (enough > 0); }
+
+static void of_systems(void) {
+    bool largest = below(1000) == 0;
+    size_t n = largest ? LIMIT - below(2) : any_size(), m = largest ? LIMIT - below(2) : any_size();
+    size_t width = n <= LIMIT ? width_of(n) : 0, count = least(m, LIMIT), places = least(least(n, m), LIMIT);
+    fill(&rows, about(count * width));
+    fill_bytes(&constants, about(count));
+    fill(&basis, about(places));
+    fill(&unit_atoms, about(places));
+    fill_bytes(&unit_values, about(places));
+    fill(&marks, about(n <= LIMIT ? n * stride_of(places) : 0));
+    fill(&mask, width);
+    /* the mask is a truth that most constants meet; what is left of a fill in a row's last word are strays */
+    bool stray = below(20) == 0, sparse = below(2) == 0;
+    uint64_t last = n % 64 == 0 || stray ? ~(uint64_t)0 : ((uint64_t)1 << (n % 64)) - 1;
+    for (size_t r = 0; r < count && r < constants.n && (r + 1) * width <= rows.n; r++) {
+        size_t one = n > 0 ? below(n) : 0, other = n > 0 ? below(n) : 0;
+        for (size_t i = 0; i < width; i++) {
+            uint64_t few = (uint64_t)(one / 64 == i) << (one % 64) | (uint64_t)(other / 64 == i) << (other % 64);
+            put(&rows, r * width + i, (sparse ? few : rows.want[r * width + i]) & (i + 1 == width ? last : ~(uint64_t)0));
+        }
+        size_t met = shared(rows.want + r * width, mask.want, width) % 2;
+        constants.cells[GUARD + r] = constants.want[r] = (uint8_t)(below(60) ? met : below(20) ? 1 - met : 2);
+    }
+    if (below(200) == 0) *(below(2) ? &n : &m) = LIMIT + 1 + around(LIMIT) % (SIZE_MAX - LIMIT);
+
+    worzubil_prepared want = prepared(n, m);
+    worzubil_prepared got = worzubil_prepare(n, m, at(&rows), rows.n, constants.cells + GUARD, constants.n,
+                                             (size_t *)at(&basis), basis.n, (size_t *)at(&unit_atoms), unit_atoms.n,
+                                             unit_values.cells + GUARD, unit_values.n, at(&marks), marks.n);
+    check("prepare", "the number", want.number, got.number);
+    check("prepare", "the atoms", want.system.atoms, got.system.atoms);
+    check("prepare", "the rows", want.system.rows, got.system.rows);
+    check("prepare", "the rank", want.system.rank, got.system.rank);
+    check("prepare", "refuted", want.system.refuted, got.system.refuted);
+    check("prepare", "the additions", want.additions, got.additions);
+    check("prepare", "the units", want.units, got.units);
+    check("prepare", "the incidences", want.incidences, got.incidences);
+    held("prepare", &rows);
+    held_bytes("prepare", &constants);
+    held("prepare", &basis);
+    held("prepare", &unit_atoms);
+    held_bytes("prepare", &unit_values);
+    held("prepare", &marks);
+    if (want.number == 0 && !want.system.refuted) of_column(n, want.system.rank);
+}
+
 /* A length that no memory has is refused before a word is read. */
 static void too_wide(void) {
     fill(&left, 1);
@@ -258,6 +419,7 @@ int main(int argc, char **argv) {
         changed();
         of_rows();
         of_places();
+        of_systems();
     }
     too_wide();
     printf("%lu checks passed\n", checks);

@@ -364,9 +364,15 @@ def random_state(rng):
         basis=basis, columns=marks(rng, n, [rows[b] for b in basis[:rank]]),
         region_n=n, held=held, cut=cut,
         known=rng.random() < 0.6, known_n=n, old_held=held & earlier, old_cut=cut & earlier,
-        forced=rank + rng.choice((0, 3)), room=[places, places, n * 2 * -(-places // 128)],
+        forced=rank + rng.choice((0, 3)), room=room_for(n, m),
         atom=rng.randrange(n) if n else 0, short={},
     )
+
+
+def room_for(n, m):
+    """The lengths of basis, unit atoms, unit values and index that preparation wants."""
+    places = min(m, n)
+    return [places, places, places, n * 2 * -(-places // 128)]
 
 
 def marks(rng, n, rows):
@@ -398,7 +404,7 @@ def spoil(rng, state):
     if how == 9:
         state.short[rng.choice(("rows", "constants", "basis", "index"))] = 1
         state.forced = max(0, state.rank - rng.randint(0, 1))
-        state.room[rng.randrange(3)] -= 1
+        state.room[rng.randrange(4)] -= 1
         state.room = [max(0, length) for length in state.room]
     elif how == 10:
         name = rng.choice(("n", "m", "region_n", "known_n", "rank"))
@@ -460,6 +466,108 @@ def hull_case(rng):
     return " ".join([show("hull k", [k]), show("words", split(word, count), "{:x}")])
 
 
+# Systems to prepare and columns, at every boundary
+
+
+BORDERS = (0, 1, 63, 64, 65, 127, 128, 129, 191, 192, 193, 255, 256, 257, 511, 512, 513)
+SIZES = [
+    (n, m) for n in BORDERS for m in sorted({0, 1, 2, n - 1, n, n + 1, 127, 128, 129, 511, 512, 513}) if 0 <= m <= 513
+]
+STYLES = (
+    "dense", "noise", "sparse", "pair", "ladder", "deficient", "units", "duplicates",
+    "refuted first", "refuted middle", "refuted last",
+)
+FITTING = (  # what is wrong with the buffers of a system, or only longer than need be
+    *(((part, step),) for part in ("rows", "constants", "basis", "unit atoms", "unit values", "index") for step in (-1, 1)),
+    (("stray", 0),), (("stray", 63),), (("constant", 2),), (("constant", 255),),
+    (("basis", -1), ("constant", 2)), (("index", -1), ("stray", 0)), (("rows", 1), ("constants", 1), ("index", 1)),
+)
+
+
+def sums(rng, rows, count):
+    """So many sums of a few of the rows."""
+    return [rng.choice(rows) ^ rng.choice(rows) ^ rng.choice((0, rng.choice(rows))) for _ in range(count)]
+
+
+def system_rows(rng, n, m, style):
+    """m rows over n atoms, and the number of the one that refutes them, or m."""
+    if style == "ladder":
+        lows = rng.sample(range(n), min(m, n))
+        rows = [(rng.getrandbits(n) | 1) << low & (1 << n) - 1 for low in lows]
+        return rows + sums(rng, rows or [0], m - len(rows)), m
+    if style in ("deficient", "duplicates"):
+        few = [subset(rng, n, "dense") for _ in range(rng.choice((1, 2, n // 2 + 1, max(1, min(m, n) - 1))))]
+        return sums(rng, few, m) if style == "deficient" else rng.choices(few, k=m), m
+    if style == "units":
+        return [subset(rng, n, "pair") if rng.random() < 0.2 else n and 1 << rng.randrange(n) for _ in range(m)], m
+    if not style.startswith("refuted"):
+        return [subset(rng, n, "dense" if style == "noise" else style) for _ in range(m)], m
+    rows = [subset(rng, n, rng.choice(("dense", "dense", "sparse"))) for _ in range(m)]
+    at = min(m, {"first": 0, "middle": m // 2, "last": max(0, m - 1)}[style.split()[1]])
+    rows[at : at + 1] = (sums(rng, rows[:at], 1) if at else [0]) if at < m else []
+    return rows, at
+
+
+def constants_for(rng, n, rows, style, refuting):
+    """Constants that a truth meets up to the row that refutes."""
+    truth = rng.getrandbits(n + 1)
+    if style == "noise":
+        return [rng.getrandbits(1) for _ in rows]
+    return [(row & truth).bit_count() % 2 ^ (number == refuting) for number, row in enumerate(rows)]
+
+
+def prepare_case(rng, number):
+    """All pairs of sizes with all styles, then with all that can be wrong, then at random."""
+    turn, at = divmod(number, len(SIZES))
+    n, m = SIZES[at]
+    style, faults = rng.choice(STYLES), ()
+    if turn < len(STYLES):
+        style = STYLES[turn]
+    elif turn < len(STYLES) + len(FITTING):
+        faults = FITTING[turn - len(STYLES)]
+    else:
+        faults = [fault for faults in rng.choices(FITTING, k=rng.randint(0, 2)) for fault in faults]
+    rows, refuting = system_rows(rng, n, m, style)
+    constants = constants_for(rng, n, rows, style, refuting)
+    where = rng.choice((0, m // 2, max(0, m - 1)))
+    for part, value in faults:
+        if part == "stray" and m and n % 64:
+            rows[where] |= 1 << n - n % 64 + max(value, n % 64)
+        elif part == "constant" and m:
+            constants[where] = value
+    words = [word for row in rows for word in split(row, -(-n // 64))]
+    room = dict(zip(("basis", "unit atoms", "unit values", "index"), room_for(n, m)))
+    for part, step in faults:
+        if part in room:
+            room[part] = max(0, room[part] + step)
+        elif part == "rows":
+            words = words + [2**64 - 1] if step > 0 else words[:-1]
+        elif part == "constants":
+            constants = constants + [2] if step > 0 else constants[:-1]
+    lists = show("rows", words, "{:x}"), show("constants", constants), show("room", room.values())
+    return " ".join([show("prepare size", [n, m]), *lists])
+
+
+def column_case(rng, number):
+    """All pairs of an atom count and a rank, with an index that is fit or not."""
+    turn, at = divmod(number, len(BORDERS) ** 2)
+    n, rank = BORDERS[at // len(BORDERS)], BORDERS[at % len(BORDERS)]
+    width = 2 * -(-rank // 128)
+    index = [word for _ in range(n) for word in split(rng.choice((0, 1, 1 << rank >> 1, rng.getrandbits(rank + 1) >> 1)), width)]
+    atom = rng.choice((0, n // 2, max(0, n - 1)))
+    how = (turn + at) % 8
+    if how == 1:
+        index = index[:-1]
+    elif how == 2:
+        index += [2**64 - 1]
+    elif how in (3, 4) and n and rank % 128:
+        place = rng.choice((0, n // 2, n - 1)) * width + rng.choice((width - 1, rank // 64))
+        index[place] |= 1 << (rng.choice((rank % 64, 63)) if place % width == rank // 64 else rng.randrange(64))
+    elif how == 5:
+        atom = rng.choice((n, n + 1, 2**64 - 1))
+    return " ".join([f"column atom {atom} atoms {n} rank {rank}", show("index", index, "{:x}")])
+
+
 def tables(limit):
     """All tables of at most `limit` atoms."""
     for k in range(limit + 1):
@@ -508,7 +616,7 @@ def small_states():
         places = max(rank, min(m, n))
         state = State(
             n=n, m=m, rank=rank, refuted=refuted, rows=[row] * m, constants=[constant + entry] * m,
-            basis=[entry] * places, columns=[mark] * n, forced=rank, room=[places, places, 2 * n * constant],
+            basis=[entry] * places, columns=[mark] * n, forced=rank, room=[places, places, places, 2 * n * constant],
             region_n=n, held=0, cut=0, known=False, short={}, atom=row, old_cut=0,
         )
         lines |= {state.line(call) for call in ("prepare", "hold", "cut", "column")}

@@ -312,6 +312,16 @@ def answer_state(line):
         return show("refused", refusal.args)
 
 
+def refusal(line):
+    """`refused N` alone, or none where the state is fit."""
+    call, *tokens = line.split()
+    try:
+        (check_hull if call == "hull" else check_call)(read_fields(tokens))
+    except Refused as refused:
+        return show("refused", refused.args)
+    return None
+
+
 def read_fields(tokens):
     """A token with a letter after f is a name; its values follow it, up to the next name."""
     fields, name = {}, None
@@ -351,7 +361,7 @@ class Lent:
             self.known = Region(*fields["known"], joined(fields["oldheld"]), joined(fields["oldcut"]))
         buffers = ("rows", "constants", "basis", "index")
         self.lengths = {name: len(fields[name]) for name in buffers if name in fields}
-        self.lengths |= zip(("basis", "units", "index"), fields.get("room", []))
+        self.lengths |= zip(("basis", "unit atoms", "unit values", "index"), fields.get("room", []))
         self.lengths |= zip(["forced"], fields.get("forced", []))
         self.basis = fields.get("basis", [])[: self.rank]
         self.fields = fields
@@ -395,14 +405,19 @@ def wanted(lent, name):
         return lent.m * (ceil(lent.n, 64) if name == "rows" else 1)
     if name == "forced":
         return lent.rank
-    if name in ("basis", "units"):
+    if name in ("basis", "unit atoms", "unit values"):
         return min(lent.m, lent.n)
     return lent.n * 2 * ceil(min(lent.m, lent.n) if lent.rank is None else lent.rank, 128)
 
 
-def call_hull(fields):
+def check_hull(fields):
     (k,) = fields["k"]
     refuse(17, k > 8 or len(fields["words"]) != 2 * ceil(2**k, 128))
+    return k
+
+
+def call_hull(fields):
+    k = check_hull(fields)
     equations, exact = propose(k, joined(fields["words"]))
     pairs = [number for equation in equations for number in equation]
     return show(f"hull {len(equations)}", ["exact" if exact else "inexact", *pairs])

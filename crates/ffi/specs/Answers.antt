@@ -1,9 +1,10 @@
--- How the answers of `words` and `rows` are told to C: one definition for each type.
+-- How the answers of `words`, `rows` and `index` are told to C: one definition for each type.
 -- The kinds: 0 an answer, with its value (of a yes or no: 1 or 0); 1 nothing there; 2 unfit, which is lengths that differ or a
 -- row or mask that is not there; 3 more bits than a usize numbers. A kind other than 0 has the value 0.
 use Prim.Native.Nat.{ℕ, _*_}
 use mathlib.Core.List.{List}
 use mathlib.Core.Bool.{cond}
+use lib.Dec.{eqb}
 use Rattle.words.specs.declared.Place.{Place}
 use Rattle.words.specs.declared.SetBits.{SetBits}
 use Rattle.words.specs.declared.Next.{Next}
@@ -14,6 +15,7 @@ use Rattle.words.specs.declared.Counted.{Counted}
 use Rattle.words.specs.declared.Counted.the-variants as counted
 use Rattle.words.specs.declared.Verdict.{Verdict}
 use Rattle.words.specs.declared.Verdict.the-variants as verdict
+use Rattle.rows.specs.declared.Atom.{Atom}
 use Rattle.rows.specs.declared.Source.{Source}
 use Rattle.rows.specs.declared.Ordinal.{Ordinal}
 use Rattle.rows.specs.declared.Entry.{Entry}
@@ -25,6 +27,8 @@ use Rattle.rows.specs.declared.Parity.the-variants as parity
 use Rattle.rows.specs.declared.Overlap.{Overlap}
 use Rattle.rows.specs.declared.Overlap.the-variants as shared
 use Rattle.rows.specs.Calls.{within}
+use Rattle.index.specs.Index.{columnWidth}
+use Rattle.index.specs.Column.{columnUnfit}
 use Rattle.ffi.specs.declared.Answer.{Answer}
 use Rattle.ffi.specs.declared.Located.{Located}
 use Rattle.ffi.specs.declared.Step.{Step}
@@ -43,6 +47,9 @@ rowNumber n = record { 0 = n }
 
 abbrev pub basisPlace : ℕ → Ordinal
 basisPlace n = record { 0 = n }
+
+abbrev pub atomNumber : ℕ → Atom
+atomNumber n = record { 0 = n }
 
 -- ---- the answers of `words`
 
@@ -92,3 +99,10 @@ overlapAnswer shared.Outside = answer 2 0
 unfoldable pub spanOf : ℕ → List ℕ → Source → Span
 spanOf w ws r =
     cond (within w ws r) (record { kind = 0; start = r .0 * w; length = w }) (record { kind = 2; start = 0; length = 0 })
+
+-- Where an atom's column lies in the index: kind 0 with its start and its length, or kind 2 where it is refused.
+unfoldable pub columnSpanOf : List ℕ → ℕ → ℕ → Atom → Span
+columnSpanOf index n rank a =
+    cond (eqb (columnUnfit index n rank a) 0)
+    (record { kind = 0; start = a .0 * columnWidth rank; length = columnWidth rank })
+    (record { kind = 2; start = 0; length = 0 })

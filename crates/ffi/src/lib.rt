@@ -1,10 +1,10 @@
 // The public calls for C, each with the equation of the call it exports; include/worzubil.h declares them. Those of `words` and `rows`
-// stand here, those of `hull` and `embed` in hulls.rt.
+// stand here, those of `hull` and `embed` in hulls.rt, those of `parity` and `index` in prepares.rt.
 // A row's number, a place of the basis and an atom are plain numbers here. specs/Answers.antt says how each answer is told.
 ghost use mathlib.Core.Path.{_≡_};
 ghost use mathlib.Core.Bool.{cond};
 ghost use Prim.Native.Nat.{_/_};
-ghost use lib.ListN.{length, take, drop};
+ghost use lib.ListN.{length, take, drop, replicate};
 ghost use lib.Dec.{eqb, ltb};
 ghost use lib.Bits.{bitOr, bitXor};
 ghost use lib.Count.{ones};
@@ -15,6 +15,7 @@ ghost use Rattle.rows.specs.Calls.{sourceOf, rowOf, lowestOf, overlapParityOf, 
 ghost use Rattle.ffi.specs.Answers.{setBits, rowNumber, basisPlace, locatedAnswer, nextAnswer, foundAnswer, countedAnswer, verdictAnswer, entryAnswer, lowestAnswer, parityAnswer, overlapAnswer, spanOf};
 
 pub mod hulls;
+pub mod prepares;
 
 // An answer: kind 0 with its value (of a yes or no: 1 or 0), 1 nothing there, 2 unfit, 3 more bits than a usize numbers.
 #[repr(C)]
@@ -38,7 +39,7 @@ pub struct Step {
     pub remaining: u64,
 }
 
-// A row's place among the words: kind 0 with its start and length, or 2 where it does not lie within.
+// A row's place among the words, or a column's in the index: kind 0 with its start and length, or 2 where it is not there.
 #[repr(C)]
 pub struct Span {
     pub kind: usize,
@@ -176,6 +177,13 @@ pub extern "C" fn worzubil_insert(words: &mut [u64], atom: usize) -> bool
     ensures words { λ _. ⌜ now (words .exit) ≡ inserted (now (words .entry)) atom ⌝ }
 {
     words::insert(words, atom)
+}
+
+#[no_mangle]
+pub extern "C" fn worzubil_clear(words: &mut [u64])
+    ensures { λ _. ⌜ now (words .exit) ≡ replicate (length (now (words .entry))) 0 ⌝ }
+{
+    words::clear(words)
 }
 
 #[no_mangle]

@@ -3,6 +3,9 @@ use mathlib.Core.Path.{ap}
 use borrow.Author.Tests.{eq-eqb}
 use Rattle.hull.specs.Propose.{proposalOf, proposeUnfit}
 use Rattle.hull.specs.declared.Proposal.{Proposal}
+use Rattle.parity.specs.Prepare.{prepareUnfit}
+use Rattle.fit.specs.Rows.{strays}
+use Rattle.words.specs.Set.{packed}
 use borrow.Author.Needs.{needs}
 use Rattle.settled.proofs.main.Statement.{statement}
 use Rattle.settled.proofs.main.Tie as tie
@@ -56,6 +59,34 @@ expect-requires-4 : tie.Need-expect-requires-4
 unfolding proposalOf proposeUnfit
 expect-requires-4 c κs = eq-eqb (c .before .propose4 .result .number) 17 (ap (λ (p : Proposal). p .number) (c .before .propose4 .ensures))
 
+size-number-requires : tie.Need-size-number-requires
+size-number-requires c κs = search needs
+
+expect-requires-5 : tie.Need-expect-requires-5
+unfolding prepareUnfit strays
+expect-requires-5 c κs = eq-eqb (c .size-number .result) 0 (c .size-number .ensures)
+
+size-number-requires-2 : tie.Need-size-number-requires-2
+size-number-requires-2 c κs = search needs
+
+expect-requires-6 : tie.Need-expect-requires-6
+unfolding prepareUnfit strays
+expect-requires-6 c κs = eq-eqb (c .size-number2 .result) 10 (c .size-number2 .ensures)
+
+size-number-requires-3 : tie.Need-size-number-requires-3
+size-number-requires-3 c κs = search needs
+
+expect-requires-7 : tie.Need-expect-requires-7
+unfolding prepareUnfit strays packed
+expect-requires-7 c κs = eq-eqb (c .size-number3 .result) 0 (c .size-number3 .ensures)
+
+size-number-requires-4 : tie.Need-size-number-requires-4
+size-number-requires-4 c κs = search needs
+
+expect-requires-8 : tie.Need-expect-requires-8
+unfolding prepareUnfit strays
+expect-requires-8 c κs = eq-eqb (c .size-number4 .result) 10 (c .size-number4 .ensures)
+
 returns : tie.Need-returns
 returns c = search needs
 
@@ -78,4 +109,12 @@ main-spec =
     slice-aggregate-propose-4
     propose-requires-4
     expect-requires-4
+    size-number-requires
+    expect-requires-5
+    size-number-requires-2
+    expect-requires-6
+    size-number-requires-3
+    expect-requires-7
+    size-number-requires-4
+    expect-requires-8
     returns)
