@@ -52,7 +52,8 @@ toldOf number atoms rows rank refuted additions units incidences = record {
 }
 
 -- "A row left empty with constant 1 ends preparation as refuted: basis and counts so far stand, units and index are not written and their
--- counts are 0. Otherwise units are the basis rows of one atom, in basis order, and the index follows." Words and entries past those named are untouched.
+-- counts are 0. Otherwise units are the basis rows of one atom, in basis order, and the index follows." And "words and entries past those
+-- named are untouched".
 abbrev pub followed : Bool → ℕ → ℕ → Lent → Outcome → Prepared × Lent
 followed true n m l o = (
   toldOf 0 n m (o .result .rank) true (o .result .additions) 0 0,
