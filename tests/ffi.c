@@ -1,4 +1,4 @@
-/* Every export of include/worzubil.h beside plain loops over single bits, on fit and unfit buffers.
+/* Every export of include/worzubil.h but those of tables beside plain loops over single bits, on fit and unfit buffers.
  * A lent buffer stands between canary words: after each call all of its cells are compared. Seeded; one argument sets the rounds. */
 #include <stdio.h>
 #include <stdlib.h>

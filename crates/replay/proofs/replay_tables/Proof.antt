@@ -1,16 +1,16 @@
--- `replay::replay` is safe: it goes on by a case at a time.
+-- `replay::replay_tables` is safe: it goes on by a table at a time.
 use Prim.Native.Nat.{_+_, _-_, _≤_}
 use mathlib.Core.Logic.{⊎-elim}
 use native.Mathlib.Omega.{arith}
 use borrow.Author.Needs.{needs}
-use Rattle.replay.proofs.replay.Statement.{statement}
-use Rattle.replay.proofs.replay.Tie as tie
+use Rattle.replay.proofs.replay_tables.Statement.{statement}
+use Rattle.replay.proofs.replay_tables.Tie as tie
 
 abbrev Inv-loop : tie.InvT-loop
-Inv-loop input agreed₀ at₀ agreed at = (agreed ≤ at) × (at ≤ 65000 + 85)
+Inv-loop input end agreed₀ asked₀ at₀ agreed asked at = (agreed ≤ at) × (asked ≤ at) × (at ≤ 65000 + 85)
 
 abbrev μ-loop : tie.MeasureT-loop
-μ-loop input agreed₀ at₀ agreed at = 65085 - at
+μ-loop input end agreed₀ asked₀ at₀ agreed asked at = 65085 - at
 
 loop-holds : tie.Need-loop-holds Inv-loop μ-loop
 loop-holds c = search needs
@@ -21,6 +21,9 @@ agrees-requires c κs = search needs
 add-agreed : tie.Need-add-agreed Inv-loop μ-loop
 add-agreed c = search needs
 
+add-asked : tie.Need-add-asked Inv-loop μ-loop
+add-asked c = search needs
+
 add-at : tie.Need-add-at Inv-loop μ-loop
 add-at c = search needs
 
@@ -28,13 +31,14 @@ loop-less : tie.Need-loop-less Inv-loop μ-loop
 loop-less c = search needs
 
 loop-again : tie.Need-loop-again Inv-loop μ-loop
-loop-again c = ⊎-elim (λ w. (omega arith, omega arith)) (λ w. (omega arith, omega arith)) (c .if1 .came)
+loop-again c =
+    ⊎-elim (λ w. (omega arith, omega arith, omega arith)) (λ w. (omega arith, omega arith, omega arith)) (c .if1 .came)
 
 returns : tie.Need-returns Inv-loop μ-loop
 returns c = search needs
 
-pub replay-spec : {M : Type 1} → statement M
-replay-spec =
+pub replay-tables-spec : {M : Type 1} → statement M
+replay-tables-spec =
     tie.close
     (tie.spec
     Inv-loop
@@ -42,6 +46,7 @@ replay-spec =
     loop-holds
     agrees-requires
     add-agreed
+    add-asked
     add-at
     loop-less
     loop-again
