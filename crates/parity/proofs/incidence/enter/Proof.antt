@@ -1,4 +1,4 @@
--- `index::enter` meets its contract: the ordinal names a row, and its words are entered.
+-- `enter` meets its contract: the ordinal names a row, and its words are entered.
 use Prim.Native.Nat.{ℕ, _+_, _*_, _≤_}
 use mathlib.Core.Path.{_≡_, ap, _∙_}
 use mathlib.Core.List.{List}

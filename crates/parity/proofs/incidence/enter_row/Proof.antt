@@ -1,4 +1,4 @@
--- `index::enter_row` meets its contract: after i turns the words from place i on are left (`Entering`).
+-- `enter_row` meets its contract: after i turns the words from place i on are left (`Entering`).
 use Prim.Native.Nat.{_-_, _*_, _^_, _≤_, _<_}
 use native.Mathlib.Omega.{arith}
 use lib.ListN.{length, getD}

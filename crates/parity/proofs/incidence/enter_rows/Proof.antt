@@ -1,4 +1,4 @@
--- `index::enter_rows` meets its contract: after j turns the first j basis rows are entered (`Upto`).
+-- `enter_rows` meets its contract: after j turns the first j basis rows are entered (`Upto`).
 use Prim.Native.Nat.{ℕ, _-_, _≤_}
 use mathlib.Core.Path.{_≡_, sym, ap, _∙_}
 use native.Mathlib.Omega.{arith}

@@ -1,4 +1,4 @@
--- `index::enter_word` meets its contract: the atoms of `rest` are left to mark (`Left`).
+-- `enter_word` meets its contract: the atoms of `rest` are left to mark (`Left`).
 use Prim.Native.Nat.{ℕ, _+_, _-_, _*_, _^_, _≤_, _<_}
 use mathlib.Core.Path.{_≡_, ap, _∙_}
 use native.Mathlib.Nat.{zero-mul}
