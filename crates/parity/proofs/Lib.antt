@@ -3,6 +3,7 @@ pub mod Usable
 pub mod Whole
 pub mod Leaving
 pub mod Telling
+pub mod Refit
 pub mod Marking
 pub mod Visiting
 pub mod Naming

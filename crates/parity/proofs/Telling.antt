@@ -18,7 +18,7 @@ use Rattle.rows.specs.declared.Atom.{Atom}
 use Rattle.rows.proofs.Rowwise.{has-below}
 use Rattle.rows.proofs.Digits.{atoms-has, atoms-mask, mask-lt, packed-unpack}
 use Rattle.index.specs.Index.{columnWidth, columnOf, indexOf}
-use Rattle.index.specs.Column.{columnUnfit, wantedColumn}
+use Rattle.index.specs.Column.{overRank, columnUnfit, wantedColumn}
 use Rattle.index.proofs.Overrank.{over-none}
 use Rattle.echelon.proofs.Written.{unpack-length}
 use Rattle.parity.specs.Basis.{basisOf}
@@ -76,11 +76,16 @@ module _ (n rank : ℕ) (rs : List Row) (ranked : length rs ≡ rank) (rest : Li
   column-below a h =
       rw (column-set a h) (rw (length-map rs (λ (r : Row). hasAtom r a) ∙ ranked) at (mask-lt (columnOf rs a)))
 
+  pub columns-long : n * columnWidth rank ≤ length written
+  columns-long = simp length-append (omega (arith, index-length (columnWidth rank) rs n))
+
+  pub columns-below : overRank rank (columnWidth rank) written n ≡ false
+  columns-below = over-none rank (columnWidth rank) written n column-below
+
   pub column-taken : n ≤ 512 → rank ≤ 512 → (a : Atom) → a .0 < n → columnUnfit written n rank a ≡ 0
   unfolding columnUnfit
   column-taken atoms ranks a h =
-      let room : n * columnWidth rank ≤ length written = simp length-append (omega (arith, index-length (columnWidth rank) rs n)) in
-      simp (le-ltb 512 n atoms, le-ltb 512 rank ranks, le-ltb _ _ room, over-none rank (columnWidth rank) written n column-below, lt-leb n (a .0) h)
+      simp (le-ltb 512 n atoms, le-ltb 512 rank ranks, le-ltb _ _ columns-long, columns-below, lt-leb n (a .0) h)
 
   module _ (atoms : n ≤ 512) (ranks : rank ≤ 512) (a : Atom) (h : a .0 < n) where
     column-is : wantedColumn written n rank a ≡ row (columnWidth rank) written (a .0)

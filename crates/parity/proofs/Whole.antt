@@ -30,6 +30,12 @@ pub record Room (n m : ℕ) (l : Lent) : Type 0 where
   pub values : min m n ≤ length (l .unit-values)
   pub index : n * columnWidth (min m n) ≤ length (l .index)
 
+-- the columns of a lesser rank are no wider
+pub index-holds : (n m : ℕ) (l : Lent) (rank : ℕ) → Room n m l → rank ≤ min m n → n * columnWidth rank ≤ length (l .index)
+index-holds n m l rank room few =
+    let less : columnWidth rank ≤ columnWidth (min m n) = omega arith in
+    le-trans (mul-le-mul-left n less) (room .index)
+
 module _ (n m : ℕ) (l : Lent) (k : ℕ) (is : k ≡ prepareUnfit n m l) where
   st : State
   st = eliminated n (rowsTo n (widthOf n) (l .rows) (l .constants) m)
@@ -92,9 +98,7 @@ module _ (n m : ℕ) (l : Lent) (k : ℕ) (is : k ≡ prepareUnfit n m l) where
       rank-least = subst (λ (o : Outcome). o .result .rank ≤ min m n) (sym left-is) (rank-few n m (l .rows) (l .constants))
 
       pub index-room : n * columnWidth (done .rank) ≤ length (l .index)
-      index-room =
-          let less : columnWidth (done .rank) ≤ columnWidth (min m n) = omega (arith, rank-least) in
-          le-trans (mul-le-mul-left n less) (room .index)
+      index-room = index-holds n m l (done .rank) room rank-least
 
       pub sound-is : done .refuted ≡ false → (units incidences : ℕ) (atoms values index : List ℕ)
           → units ≡ length (unitsOf (basisOf n ws cs (take (done .rank) ps)))

@@ -1,5 +1,5 @@
 -- The theorems of `parity`, as statements about what `prepare` answers and leaves, for every memory lent to it; src/promises.rt holds each.
-use Prim.Native.Nat.{ℕ, _-_, _^_, _≤_, _<_, min}
+use Prim.Native.Nat.{ℕ, _-_, _*_, _^_, _≤_, _<_, min}
 use mathlib.Core.Path.{_≡_}
 use mathlib.Core.List.{List}
 use mathlib.Core.Bool.{Bool, true, false, _&&_}
@@ -10,10 +10,11 @@ use Rattle.rows.specs.Row.{Row, Assignment, hasAtom, meetsAll, sumOf}
 use Rattle.rows.specs.Flat.{widthOf, rowAt}
 use Rattle.rows.specs.Count.{count}
 use Rattle.rows.specs.declared.Atom.{Atom}
+use Rattle.fit.specs.Rows.{rowsUnfit}
 use Rattle.echelon.specs.Eliminate.{rowsTo}
 use Rattle.echelon.specs.Promises.{Lowest}
 use Rattle.index.specs.Index.{columnWidth}
-use Rattle.index.specs.Column.{columnUnfit, wantedColumn}
+use Rattle.index.specs.Column.{overRank, columnUnfit, wantedColumn}
 use Rattle.parity.specs.Basis.{basisOf}
 use Rattle.parity.specs.Prepare.{Lent, prepareOf}
 use Rattle.parity.specs.declared.Prepared.{Prepared}
@@ -78,3 +79,17 @@ Tells n a p =
 
 abbrev pub ColumnTells : Type 0
 ColumnTells = (n m : ℕ) (l : Lent) (a : Atom) → prepareOf n m l .0 .number ≡ 0 → a .0 < n → Tells n a (prepareOf n m l)
+
+-- What preparation leaves is fit to be lent again: to a call that takes this system with its rows, basis and index.
+pub record Fits (n m : ℕ) (p : Prepared × Lent) : Type 0 where
+  pub atoms : p .0 .system .atoms ≡ n
+  pub rows : p .0 .system .rows ≡ m
+  pub fit : rowsUnfit n m (p .1 .rows) (p .1 .constants) ≡ 0
+  pub ranked : p .0 .system .rank ≤ min m n
+  pub entries : min m n ≤ length (p .1 .basis)
+  pub named : (j : ℕ) → j < p .0 .system .rank → getD (p .1 .basis) j 0 < m
+  pub columns : n * columnWidth (p .0 .system .rank) ≤ length (p .1 .index)
+  pub bits : p .0 .system .refuted ≡ false → overRank (p .0 .system .rank) (columnWidth (p .0 .system .rank)) (p .1 .index) n ≡ false
+
+abbrev pub PrepareFits : Type 0
+PrepareFits = (n m : ℕ) (l : Lent) → prepareOf n m l .0 .number ≡ 0 → Fits n m (prepareOf n m l)

@@ -1,5 +1,5 @@
 // The theorems of `parity`, each held by the gate as the contract of a function with an empty body; specs/Promises.antt has the statements.
-ghost use Rattle.parity.specs.Promises.{PrepareKeeps, PrepareCounts, PreparePivots, PrepareSums, ColumnTells};
+ghost use Rattle.parity.specs.Promises.{PrepareKeeps, PrepareCounts, PreparePivots, PrepareSums, ColumnTells, PrepareFits};
 
 // "A row left empty with constant 1 ends preparation as refuted"; else the solutions are kept
 pub fn prepare_keeps()
@@ -24,4 +24,9 @@ pub fn prepare_sums()
 // "bit j of atom a's column is set when basis row j has a"
 pub fn column_tells()
     ensures { λ _. ⌜ ColumnTells ⌝ }
+{}
+
+// what is left is fit to be lent again: the rows and the basis, and the index of a sound system
+pub fn prepare_fits()
+    ensures { λ _. ⌜ PrepareFits ⌝ }
 {}
