@@ -18,7 +18,7 @@ use Rattle.rows.proofs.Places.{row-length}
 -- ---- words of any width k
 
 -- a set without its first i words
-packed-shr : (k : ℕ) (ws : List ℕ) (i : ℕ) → packed k ws / 2 ^ (i * k) ≡ packed k (drop i ws)
+pub packed-shr : (k : ℕ) (ws : List ℕ) (i : ℕ) → packed k ws / 2 ^ (i * k) ≡ packed k (drop i ws)
 unfolding packed
 packed-shr k [] i = zero-div _ ∙ sym (left-none k [] i (omega arith))
 packed-shr k (w ∷ ws) zero = ap (λ (n : ℕ). packed k (w ∷ ws) / 2 ^ n) (zero-mul k) ∙ div-one _

@@ -1,0 +1,4 @@
+-- What the contracts of `region` cite, in the order to read it.
+pub mod Masks
+pub mod Calls
+pub mod Promises
