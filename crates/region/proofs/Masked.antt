@@ -181,6 +181,14 @@ module _ (p : Decisions) (few : length p ≤ 512) where
   unfolding regionOf
   cut-atoms = atoms-map isCut
 
+  pub held-has : (a : ℕ) → has (setOf (regionOf p .held)) a ≡ isHeld (getD p a none)
+  unfolding regionOf
+  held-has = map-has isHeld refl
+
+  pub cut-has : (a : ℕ) → has (setOf (regionOf p .cut)) a ≡ isCut (getD p a none)
+  unfolding regionOf
+  cut-has = map-has isCut refl
+
   pub fits-of : Fitting (regionOf p)
   unfolding regionOf
   fits-of = record {

@@ -4,15 +4,15 @@ use mathlib.Core.Path.{_≡_, refl, sym, ap, _∙_, subst}
 use mathlib.Core.Bool.{Bool, true, false, cond, Bool·beq, true≢false, false≢true}
 use mathlib.Core.Option.{Option, none, some}
 use native.Mathlib.Omega.{arith}
-use borrow.Author.Tests.{leb-false, eqb-true, eqb-false}
+use borrow.Author.Tests.{leb-false}
 use lib.ListN.{length, getD, set, length-set}
 use lib.Seq.{getD-set-same, getD-set-other}
-use lib.Dec.{leb, eqb}
+use lib.Dec.{leb}
 use Rattle.rows.specs.Decisions.{Decisions}
 use Rattle.rows.specs.declared.Atom.{Atom}
 use Rattle.fit.specs.Refusal.{orRefused}
 use Rattle.fit.proofs.Fitting.{passed}
-use Rattle.region.specs.Masks.{decisions, regionOf}
+use Rattle.region.specs.Masks.{decisions, regionOf, isOpen}
 use Rattle.region.specs.Calls.{accepted, regionUnfit, decideUnfit, said, decided, decideOf, holdOf, cutOf}
 use Rattle.region.specs.Promises.{deciding, AcceptedStands, OthersStay, DecisionsStay, RegionHolds}
 use Rattle.region.specs.declared.Region.{Region}
@@ -26,16 +26,10 @@ use Rattle.region.proofs.Masked.{fitting, decisions-length, decide-is, 
 abbrev pub Gains : Decisions → Decisions → Type 0
 Gains p q = (a : ℕ) (v : Bool) → getD p a none ≡ some v → getD q a none ≡ some v
 
-none-some : {A : Type 0} {T : Type 0} (v : A) → _≡_ {A = Option A} none (some v) → T
-none-some v e = let z : _≡_ {A = ℕ} 0 1 = cc in let no : ⊥ = omega arith in absurd no
-
 -- an open atom decided
 pub set-gains : (p : Decisions) (a : ℕ) (v : Bool) → getD p a none ≡ none → Gains p (set p a (some v))
-set-gains p a v free b w e = go (eqb b a) refl
-  where
-    go : (t : Bool) → eqb b a ≡ t → getD (set p a (some v)) b none ≡ some w
-    go true same = none-some w (sym free ∙ ap (λ (c : ℕ). getD p c none) (sym (eqb-true b a same)) ∙ e)
-    go false other = getD-set-other p a b (some v) none (eqb-false b a other) ∙ e
+set-gains p a v free b w e =
+    getD-set-other p a b (some v) none (λ same. false≢true (ap isOpen (sym e ∙ ap (λ (c : ℕ). getD p c none) same ∙ free))) ∙ e
 
 -- ---- the two ways a decision can end
 
