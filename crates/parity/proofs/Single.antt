@@ -53,7 +53,7 @@ module _ (ws : List ℕ) (h : length ws ≤ 8) (c : Counted) (is : c ≡ countOf
       omega arith
 
 -- a set of one atom is not empty
-single-some : (x : ℕ) → ones x ≡ 1 → 0 < x
+pub single-some : (x : ℕ) → ones x ≡ 1 → 0 < x
 unfolding ones
 single-some zero e = omega arith
 single-some (suc x) e = omega arith
@@ -105,7 +105,7 @@ low-half x h even =
 low-odd : (x : ℕ) → x % 2 ≡ 1 → low x ≡ 0
 low-odd x e = low-is x 0 (record { half = x / 2; is = omega arith })
 
-low-atoms : (n x : ℕ) → 0 < x → x < 2 ^ n → forward.low (atomsOf n x) ≡ low x
+pub low-atoms : (n x : ℕ) → 0 < x → x < 2 ^ n → forward.low (atomsOf n x) ≡ low x
 unfolding atomsOf
 low-atoms zero x h l = let z : ⊥ = omega arith in absurd z
 low-atoms (suc n) x h l = go (x % 2) refl (mod-lt x (zero-lt-suc 1)) (low-atoms n (x / 2))

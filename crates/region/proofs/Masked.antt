@@ -134,7 +134,7 @@ decide-is r a = checks-more r ((18, leb (r .atoms) (a .0)) ∷ [])
 pub mask-set : (l : List Bool) → length l ≤ 512 → setOf (unpack 64 8 (maskOf l)) ≡ maskOf l
 mask-set l h = packed-unpack 64 8 (maskOf l) (lt-of-lt-of-le (mask-lt l) (pow-mono h))
 
-mask-has : (l : List Bool) (a : ℕ) → has (maskOf l) a ≡ getD l a false
+pub mask-has : (l : List Bool) (a : ℕ) → has (maskOf l) a ≡ getD l a false
 mask-has l a = go (ltb a (length l)) refl
   where
     outside : (t : Bool) → has (maskOf l) a ≡ t → length l ≤ a → t ≡ false

@@ -3,19 +3,31 @@ use Prim.Native.Nat.{ℕ}
 use mathlib.Core.Path.{_≡_}
 use mathlib.Core.List.{List, [], _∷_, map}
 use mathlib.Core.Bool.{Bool, true, false}
+use mathlib.Core.Option.{none, some}
 use lib.ListN.{length, replicate}
 use Rattle.rows.specs.Row.{Row}
+use Rattle.rows.specs.Decisions.{Decisions}
 use Rattle.rows.specs.Flat.{maskOf}
 use Rattle.hull.specs.Equations.{hullOf}
-use Rattle.parity.specs.Prepare.{lent, prepareOf}
+use Rattle.parity.specs.Prepare.{Lent, lent, prepareOf}
+use Rattle.parity.specs.declared.Prepared.{Prepared}
+use Rattle.region.specs.Masks.{decisions}
+use Rattle.snapshot.specs.Promises.{oldDecisions}
+use Rattle.inspect.specs.Inspect.{inspectOf}
+use Rattle.inspect.specs.Run.{Call, hold, begins, after}
+use Rattle.inspect.specs.Promises.{filledBy}
+use Rattle.inspect.specs.declared.Step.{Step}
+use Rattle.inspect.specs.declared.Step.the-variants.{Refuted}
 
 pub data Question : Type 0 where
   table : ℕ → ℕ → Question  -- a table of k atoms by its first word
   system : ℕ → List (ℕ × ℕ) → Question  -- rows over n atoms, each by its set and its constant
+  inspection : ℕ → List (ℕ × ℕ) → List ℕ → Question  -- such a system, inspected when these atoms are held
 
 pub data Answer : Type 0 where
   equations : List (ℕ × Bool) → Bool → Answer  -- coefficients and constant of each, and whether the table is exact
   prepared : Bool → ℕ → ℕ → Answer  -- whether the system is refuted, its rank, and the additions
+  inspected : Step → ℕ → ℕ → Decisions → Decisions → Answer  -- the answer, held, cut, the decisions then, and those published
 
 abbrev pub examples : List (Question × Answer)
 examples =
@@ -29,18 +41,29 @@ examples =
     ∷ (system 0 ((0, 1) ∷ []), prepared true 0 0)  -- "{}=1: refuted, rank 0."
     ∷ (system 0 [], prepared false 0 0)  -- "No rows, n=0: sound"
     ∷ (system 3 ((3, 1) ∷ (6, 1) ∷ (5, 1) ∷ []), prepared true 2 2)  -- "{0,1}=1, {1,2}=1, {0,2}=1: refuted, 2 additions."
+    -- "{0,2}=0, {1,2}=1, 0 and 1 held: inspect Refuted, 2 held, published with 2 open."
+    ∷ (inspection 3 ((5, 0) ∷ (6, 1) ∷ []) (0 ∷ 1 ∷ []), inspected Refuted 1 0 (some true ∷ some true ∷ some true ∷ []) (some true ∷ some true ∷ none ∷ []))
     ∷ []
+
+-- The rows prepared, with room for eight entries in each list.
+abbrev pub prepares : ℕ → List (ℕ × ℕ) → Prepared × Lent
+prepares n rows =
+    let room : List ℕ = replicate 8 0 in
+    prepareOf n (length rows) (lent (map (λ (r : ℕ × ℕ). r .0) rows) (map (λ (r : ℕ × ℕ). r .1) rows) room room room room)
 
 abbrev pub answered : Question → Answer
 answered (table k word) =
     let h = hullOf k (word ∷ 0 ∷ []) in
     equations (map (λ (r : Row). (maskOf (r .atoms), r .constant)) (h .rows)) (h .exact)
 answered (system n rows) =
-    let some : List ℕ = replicate 8 0 in
-    let sets = map (λ (r : ℕ × ℕ). r .0) rows in
-    let constants = map (λ (r : ℕ × ℕ). r .1) rows in
-    let p = prepareOf n (length rows) (lent sets constants some some some some) .0 in
+    let p = prepares n rows .0 in
     prepared (p .system .refuted) (p .system .rank) (p .additions)
+answered (inspection n rows held) =
+    let p = prepares n rows in
+    let st = after (begins n) (map (λ (a : ℕ). hold (record { 0 = a })) held) in
+    let room : List ℕ = replicate 8 0 in
+    let o = inspectOf (p .0 .system) (filledBy (p .1)) (st .region) (st .known) room room .result in
+    inspected (o .answer) (o .held) (o .cut) (decisions (o .region)) (oldDecisions (o .known))
 
 -- Every example has the answer of the definitions.
 abbrev pub Settled : Type 0

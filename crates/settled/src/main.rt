@@ -1,5 +1,6 @@
 // The small settled examples of document 01 that run. Each check is proved besides: `expect` asks for it.
 use check::expect;
+use region::Region;
 ghost use mathlib.Core.Path.{_≡_};
 ghost use mathlib.Core.List.{[]};
 ghost use lib.ListN.{replicate};
@@ -42,4 +43,6 @@ fn main() {
     expect(size_number(513, 0) == 10);
     expect(size_number(0, 512) == 0);
     expect(size_number(0, 513) == 10);
+    expect(Region::undecided(512).number == 0);
+    expect(Region::undecided(513).number == 10);
 }

@@ -5,6 +5,8 @@ use Rattle.hull.specs.Propose.{proposalOf, proposeUnfit}
 use Rattle.hull.specs.declared.Proposal.{Proposal}
 use Rattle.parity.specs.Prepare.{prepareUnfit}
 use Rattle.fit.specs.Rows.{strays}
+use Rattle.region.specs.Calls.{undecidedOf}
+use Rattle.region.specs.declared.NewRegion.{NewRegion}
 use Rattle.words.specs.Set.{packed}
 use borrow.Author.Needs.{needs}
 use Rattle.settled.proofs.main.Statement.{statement}
@@ -87,6 +89,20 @@ expect-requires-8 : tie.Need-expect-requires-8
 unfolding prepareUnfit strays
 expect-requires-8 c κs = eq-eqb (c .size-number4 .result) 10 (c .size-number4 .ensures)
 
+undecided-requires : tie.Need-undecided-requires
+undecided-requires c κs = search needs
+
+expect-requires-9 : tie.Need-expect-requires-9
+unfolding undecidedOf
+expect-requires-9 c κs = eq-eqb (c .before .undecided .result .number) 0 (ap (λ (r : NewRegion). r .number) (c .before .undecided .ensures))
+
+undecided-requires-2 : tie.Need-undecided-requires-2
+undecided-requires-2 c κs = search needs
+
+expect-requires-10 : tie.Need-expect-requires-10
+unfolding undecidedOf
+expect-requires-10 c κs = eq-eqb (c .before .undecided2 .result .number) 10 (ap (λ (r : NewRegion). r .number) (c .before .undecided2 .ensures))
+
 returns : tie.Need-returns
 returns c = search needs
 
@@ -117,4 +133,8 @@ main-spec =
     expect-requires-7
     size-number-requires-4
     expect-requires-8
+    undecided-requires
+    expect-requires-9
+    undecided-requires-2
+    expect-requires-10
     returns)

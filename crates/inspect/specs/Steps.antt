@@ -1,0 +1,71 @@
+-- What the private functions of `inspect` ask and leave, for their contracts alone: no reader has to believe it, since `inspect` asks
+-- nothing.
+use Prim.Native.Nat.{ℕ, _+_, _*_, _^_, _≤_, _<_}
+use mathlib.Core.Path.{_≡_}
+use mathlib.Core.List.{List, zipWith}
+use mathlib.Core.Bool.{Bool, true, false, cond}
+use lib.ListN.{length, getD, set, take}
+use lib.Dec.{eqb}
+use Rattle.words.specs.Set.{setOf}
+use Rattle.rows.specs.Flat.{widthOf, row}
+use Rattle.region.specs.Masks.{decisions, regionOf}
+use Rattle.inspect.specs.declared.Reading.{Reading}
+use Rattle.inspect.specs.declared.Reading.the-variants.{Quiet, Forces, Wrong}
+use Rattle.inspect.specs.declared.Applied.{Applied}
+use Rattle.inspect.specs.declared.Collected.{Collected}
+use Rattle.inspect.specs.Consequences.{Consequences}
+use Rattle.inspect.specs.Batch.{Batch}
+use Rattle.inspect.specs.Inspect.{atomsFrom, valuesFrom}
+
+-- Row s lies within the lent memory and is fit.
+pub record Legible (n : ℕ) (ws cs : List ℕ) (s : ℕ) : Type 0 where
+  pub atoms : n ≤ 512
+  pub words : s * widthOf n + widthOf n ≤ length ws
+  pub constants : s < length cs
+  pub below : setOf (row (widthOf n) ws s) < 2 ^ n
+  pub constant : getD cs s 0 < 2
+
+-- Each entry of a basis below the rank names such a row.
+pub record Named (n rank : ℕ) (ws cs ps : List ℕ) : Type 0 where
+  pub ranked : rank ≤ 512
+  pub entries : rank ≤ length ps
+  pub legible : (j : ℕ) → j < rank → Legible n ws cs (getD ps j 0)
+
+abbrev pub isWrong : Reading → Bool
+isWrong Quiet = false
+isWrong (Forces atom value) = false
+isWrong Wrong = true
+
+-- How long the forced list is after a row, and its atoms and values with what the row forces as entry `at`.
+abbrev pub countNoted : Reading → ℕ → ℕ
+countNoted Quiet at = at
+countNoted (Forces atom value) at = at + 1
+countNoted Wrong at = at
+
+abbrev pub atomsNoted : Reading → ℕ → List ℕ → List ℕ
+atomsNoted Quiet at atoms = atoms
+atomsNoted (Forces atom value) at atoms = set atoms at (atom .0)
+atomsNoted Wrong at atoms = atoms
+
+abbrev pub valuesNoted : Reading → ℕ → List ℕ → List ℕ
+valuesNoted Quiet at values = values
+valuesNoted (Forces atom value) at values = set values at (cond value 1 0)
+valuesNoted Wrong at values = values
+
+-- The consequences, told and written into the lent lists.
+pub record Gathered (c : Consequences) (r : Collected) (atoms values atoms′ values′ : List ℕ) : Type 0 where
+  pub number : r .forced ≡ length (c .forced)
+  pub sound : r .sound ≡ c .sound
+  pub atoms-are : atoms′ ≡ atomsFrom (c .forced) atoms
+  pub values-are : values′ ≡ valuesFrom (c .forced) values
+
+-- The list that the first so many entries hold.
+abbrev pub forcedIn : List ℕ → List ℕ → ℕ → List (ℕ × Bool)
+forcedIn atoms values count = zipWith (λ (a v : ℕ). (a, eqb v 1)) (take count atoms) (take count values)
+
+-- A batch in words, and back.
+abbrev pub appliedOf : Batch → Applied
+appliedOf b = record { region = regionOf (b .decisions); held = b .held; cut = b .cut; against = b .against }
+
+abbrev pub batchOf : Applied → Batch
+batchOf s = record { decisions = decisions (s .region); held = s .held; cut = s .cut; against = s .against }
