@@ -195,6 +195,121 @@ worzubil_span worzubil_column(const uint64_t *index, size_t index_length, size_t
  * n columns has a bit at the rank or above; 18 where the atom is not below n. */
 size_t worzubil_column_number(const uint64_t *index, size_t index_length, size_t n, size_t rank, size_t atom);
 
+/* ---- regions and inspections */
+
+/* Which of so many atoms are settled: held ones are true, cut ones false, the others open. */
+typedef struct {
+    size_t atoms;
+    uint64_t held[8];
+    uint64_t cut[8];
+} worzubil_region;
+
+/* `number` is 0, or 10 and all else is 0. */
+typedef struct {
+    size_t number;
+    worzubil_region region;
+} worzubil_new_region;
+
+/* A region of n atoms, all open, or 10 where n is above 512. No buffer. */
+worzubil_new_region worzubil_undecided(size_t n);
+
+/* The kinds of a decision. */
+enum {
+    WORZUBIL_TAKEN = 0,  /* the atom was open, and is settled so */
+    WORZUBIL_SAME = 1,   /* it was settled so before */
+    WORZUBIL_AGAINST = 2 /* it is settled otherwise */
+};
+
+/* The kinds of an inspection. */
+enum {
+    WORZUBIL_UNCHANGED = 0, /* nothing was settled */
+    WORZUBIL_CHANGED = 1,   /* an atom was settled, or more */
+    WORZUBIL_REFUTED = 2    /* no assignment meets the rows and agrees with the region */
+};
+
+/* The kind of a decision and of an inspection that are refused. */
+enum { WORZUBIL_REFUSED = 3 };
+
+/* `number` is 0 but with WORZUBIL_REFUSED. The region is as passed, but with WORZUBIL_TAKEN: then the atom is settled. */
+typedef struct {
+    size_t kind;
+    size_t number;
+    worzubil_region region;
+} worzubil_decision;
+
+/* Settles an atom as true (hold) or as false (cut). No buffer. Refused: 10 where the region has more than 512 atoms; 11 where a bit of
+ * its masks is set at its atom count or above; 12 where an atom is held and cut; 18 where the atom is not below its atom count. */
+worzubil_decision worzubil_hold(worzubil_region region, size_t atom);
+worzubil_decision worzubil_cut(worzubil_region region, size_t atom);
+
+/* The region of the last inspection that was published, if any was. Where none was, `atoms` and the words do not count. */
+typedef struct {
+    bool initialized;
+    size_t atoms;
+    uint64_t held[8];
+    uint64_t cut[8];
+} worzubil_snapshot;
+
+/* `number` is 0, or 10, 11 or 12 and the knowledge is as passed. */
+typedef struct {
+    size_t number;
+    worzubil_snapshot known;
+} worzubil_published;
+
+/* Knowledge of nothing: not initialized, all else 0. No buffer. */
+worzubil_snapshot worzubil_fresh(void);
+
+/* Knowledge of this region in the place of what was known. No buffer. Refused: 10, 11 and 12 as by worzubil_hold. */
+worzubil_published worzubil_publish(worzubil_snapshot known, worzubil_region region);
+
+/* A set of basis rows: place j is bit j % 64 of word j / 64. */
+typedef struct {
+    uint64_t words[8];
+} worzubil_ordinals;
+
+/* `number` is 0, or that of the refusal and no row is in the set. */
+typedef struct {
+    size_t number;
+    worzubil_ordinals rows;
+} worzubil_selected;
+
+/* The basis rows that are touched: all of them where the knowledge is not initialized, else those that the index marks for an atom
+ * settled since then. index: system.atoms * 2 * ceil(system.rank / 128) words; what lies past that is not read.
+ * Refused: 10 where the system has more than 512 atoms or rows, or the region or the initialized knowledge more than 512 atoms; 13 where
+ * the rank is above the atoms or the rows; 9 where the index is shorter; 11 where a bit of the region's masks is set at its atom count or
+ * above; 12 where an atom is held and cut; 14 where one of the system's columns has a bit at the rank or above, unless the system is
+ * refuted; 15 where system, region and initialized knowledge differ in their atom counts; 16 where what the knowledge has held or cut is
+ * not so in the region. */
+worzubil_selected worzubil_touched(worzubil_system system, const uint64_t *index, size_t index_length, worzubil_region region,
+                                   worzubil_snapshot known);
+
+/* With WORZUBIL_REFUSED, `number` is not 0, the next three fields are 0, and region and knowledge are as passed. */
+typedef struct {
+    size_t kind;
+    size_t number;
+    size_t held;   /* the atoms settled as true */
+    size_t cut;    /* and as false */
+    size_t forced; /* the entries of the forced list */
+    worzubil_region region;
+    worzubil_snapshot known;
+} worzubil_inspection;
+
+/* Inspects the touched basis rows of a prepared system once. Of a refuted system and of one without a basis nothing is read, and the
+ * knowledge stays. Else the touched rows are read in the order of the basis against the region as passed: one with no open atom and the
+ * wrong parity refutes, and region and knowledge stay; one with one open atom adds it and the value that it must have to the forced list.
+ * That region becomes the knowledge, and then the list's atoms are settled in order, up to the first that is settled otherwise, which
+ * refutes.
+ * rows: system.rows * ceil(system.atoms / 64) words; constants: system.rows bytes; basis: min(system.rows, system.atoms) elements;
+ * index: as for worzubil_touched; forced_atoms and forced_values: system.rank elements. What lies past that is neither read nor
+ * written, nor are entries of the two lists past `forced`.
+ * Refused, and nothing touched: 10 and 13 as by worzubil_touched; 9 where a buffer is shorter; 11 where one of the rows has a bit at the
+ * system's atom count or above, or a constant above 1, or the region as by worzubil_touched; 12; 13 where one of the first system.rank
+ * entries of the basis is not below system.rows; 14, 15 and 16. */
+worzubil_inspection worzubil_inspect(worzubil_system system, const uint64_t *rows, size_t rows_length, const uint8_t *constants,
+                                     size_t constants_length, const size_t *basis, size_t basis_length, const uint64_t *index,
+                                     size_t index_length, worzubil_region region, worzubil_snapshot known, size_t *forced_atoms,
+                                     size_t forced_atoms_length, uint8_t *forced_values, size_t forced_values_length);
+
 #ifdef __cplusplus
 }
 #endif

@@ -22,8 +22,8 @@ typedef struct {
     size_t n;
 } lent_bytes;
 
-static lent left, right, rows, mask, basis, unit_atoms, marks;
-static lent_bytes constants, unit_values;
+static lent left, right, rows, mask, basis, unit_atoms, marks, forced_atoms;
+static lent_bytes constants, unit_values, forced_values;
 static bool bits[LIMIT][LIMIT]; /* of the rows, by row and atom */
 static size_t lows[LIMIT];      /* the lowest atom of each row, or n */
 static unsigned long checks, round_number;
@@ -199,6 +199,111 @@ static size_t column_number(size_t n, size_t rank, size_t atom) {
     return atom < n ? 0 : 18;
 }
 
+/* Why a region is refused, or 0. */
+static size_t region_number(const worzubil_region *r) {
+    if (r->atoms > LIMIT) return 10;
+    size_t both = 0;
+    for (size_t a = 0; a < LIMIT; a++) {
+        if (a >= r->atoms && (bit_of(r->held, a) || bit_of(r->cut, a))) return 11;
+        both += bit_of(r->held, a) && bit_of(r->cut, a);
+    }
+    return both ? 12 : 0;
+}
+
+static bool settled(const uint64_t *held_words, const uint64_t *cut_words, size_t atom) {
+    return bit_of(held_words, atom) || bit_of(cut_words, atom);
+}
+
+/* What is wrong with system, region and knowledge from 14 on, or 0. */
+static size_t late_number(worzubil_system s, const worzubil_region *r, const worzubil_snapshot *k) {
+    size_t stride = stride_of(s.rank);
+    for (size_t a = 0; a < s.atoms && !s.refuted; a++)
+        for (size_t j = s.rank; j < stride * 64; j++)
+            if (bit_of(marks.want + a * stride, j)) return 14;
+    if (r->atoms != s.atoms || (k->initialized && k->atoms != s.atoms)) return 15;
+    for (size_t a = 0; a < LIMIT && k->initialized; a++)
+        if ((bit_of(k->held, a) && !bit_of(r->held, a)) || (bit_of(k->cut, a) && !bit_of(r->cut, a))) return 16;
+    return 0;
+}
+
+/* Why touched rows (`rows_too` not) or an inspection are refused, or 0. */
+static size_t inspect_number(worzubil_system s, const worzubil_region *r, const worzubil_snapshot *k, bool rows_too) {
+    if (s.atoms > LIMIT || s.rows > LIMIT || r->atoms > LIMIT || (k->initialized && k->atoms > LIMIT)) return 10;
+    size_t width = width_of(s.atoms), places = least(s.rows, s.atoms);
+    if (s.rank > places) return 13;
+    if (marks.n < s.atoms * stride_of(s.rank)) return 9;
+    if (rows_too && (rows.n < s.rows * width || constants.n < s.rows || basis.n < places || forced_atoms.n < s.rank ||
+                     forced_values.n < s.rank))
+        return 9;
+    for (size_t i = 0; rows_too && i < s.rows; i++) {
+        if (constants.want[i] > 1) return 11;
+        for (size_t a = s.atoms; a < width * 64; a++)
+            if (bit_of(rows.want + i * width, a)) return 11;
+    }
+    size_t number = region_number(r);
+    if (number != 0) return number;
+    for (size_t j = 0; rows_too && j < s.rank; j++)
+        if (basis.want[j] >= s.rows) return 13;
+    return late_number(s, r, k);
+}
+
+/* Whether basis row j is touched. */
+static bool is_touched(worzubil_system s, const worzubil_region *r, const worzubil_snapshot *k, size_t j) {
+    if (!k->initialized) return true;
+    for (size_t a = 0; a < s.atoms; a++)
+        if (settled(r->held, r->cut, a) != settled(k->held, k->cut, a) && bit_of(marks.want + a * stride_of(s.rank), j)) return true;
+    return false;
+}
+
+/* Adds to the wanted lists what basis row j forces; says whether its parity is not wrong. */
+static bool reads_well(worzubil_system s, const worzubil_region *r, size_t j, size_t *count) {
+    size_t source = basis.want[j], open = 0, last = 0, value = constants.want[source];
+    for (size_t a = 0; a < s.atoms; a++) {
+        if (!bit_of(rows.want + source * width_of(s.atoms), a)) continue;
+        value ^= bit_of(r->held, a);
+        if (settled(r->held, r->cut, a)) continue;
+        open++;
+        last = a;
+    }
+    if (open == 1) {
+        forced_atoms.want[*count] = last;
+        forced_values.want[(*count)++] = (uint8_t)value;
+    }
+    return open > 0 || value == 0;
+}
+
+/* What an inspection must answer, and leave in the wanted lists. */
+static worzubil_inspection inspected(worzubil_system s, worzubil_region r, worzubil_snapshot k) {
+    worzubil_inspection want = {.number = inspect_number(s, &r, &k, true), .region = r, .known = k};
+    want.kind = want.number != 0 ? WORZUBIL_REFUSED : s.refuted ? WORZUBIL_REFUTED : WORZUBIL_UNCHANGED;
+    if (want.number != 0 || s.refuted || s.rank == 0) return want;
+    for (size_t j = 0; j < s.rank; j++) {
+        if (!is_touched(s, &r, &k, j) || reads_well(s, &r, j, &want.forced)) continue;
+        want.kind = WORZUBIL_REFUTED;
+        return want;
+    }
+    want.known.initialized = true;
+    want.known.atoms = r.atoms;
+    for (size_t i = 0; i < 8; i++) {
+        want.known.held[i] = r.held[i];
+        want.known.cut[i] = r.cut[i];
+    }
+    for (size_t i = 0; i < want.forced; i++) {
+        size_t atom = forced_atoms.want[i];
+        bool holds = forced_values.want[i] == 1;
+        uint64_t *words = holds ? want.region.held : want.region.cut;
+        if (bit_of(words, atom)) continue;
+        if (settled(want.region.held, want.region.cut, atom)) {
+            want.kind = WORZUBIL_REFUTED;
+            return want;
+        }
+        words[atom / 64] |= (uint64_t)1 << (atom % 64);
+        *(holds ? &want.held : &want.cut) += 1;
+    }
+    if (want.held + want.cut > 0) want.kind = WORZUBIL_CHANGED;
+    return want;
+}
+
 /* ---- the calls */
 
 static void one_word(void) {
@@ -346,6 +451,130 @@ static size_t any_size(void) {
 /* A length that is enough, now and then by one, and seldom one too few. */
 static size_t about(size_t enough) { return below(40) ? enough + (below(4) == 0) : enough - (enough > 0); }
 
+static void same_region(const char *call, const worzubil_region *want, const worzubil_region *got) {
+    check(call, "the region's atoms", want->atoms, got->atoms);
+    for (size_t i = 0; i < 8; i++) {
+        check(call, "a held word", want->held[i], got->held[i]);
+        check(call, "a cut word", want->cut[i], got->cut[i]);
+    }
+}
+
+static void same_known(const char *call, const worzubil_snapshot *want, const worzubil_snapshot *got) {
+    check(call, "initialized", want->initialized, got->initialized);
+    check(call, "the knowledge's atoms", want->atoms, got->atoms);
+    for (size_t i = 0; i < 8; i++) {
+        check(call, "an old held word", want->held[i], got->held[i]);
+        check(call, "an old cut word", want->cut[i], got->cut[i]);
+    }
+}
+
+/* A region of n atoms, mostly fit, with so many of 8 atoms settled. */
+static worzubil_region any_region(size_t n, size_t eighths) {
+    worzubil_new_region begun = worzubil_undecided(n);
+    worzubil_region none = {.atoms = n <= LIMIT ? n : 0};
+    check("undecided", "the number", n <= LIMIT ? 0 : 10, begun.number);
+    same_region("undecided", &none, &begun.region);
+    worzubil_region r = {.atoms = n};
+    for (size_t a = 0; a < least(n, LIMIT); a++)
+        if (below(8) < eighths) (below(2) ? r.held : r.cut)[a / 64] |= (uint64_t)1 << (a % 64);
+    if (below(20) == 0) (below(2) ? r.held : r.cut)[below(8)] |= any_word();
+    return r;
+}
+
+/* Holds or cuts an atom, and publishes the region. */
+static void of_region(worzubil_region r, worzubil_snapshot k) {
+    size_t atom = around(least(r.atoms, LIMIT)), unfit = region_number(&r);
+    size_t number = unfit == 0 && atom >= r.atoms ? 18 : unfit;
+    bool holds = below(2) == 0, fits = number == 0;
+    worzubil_region want = r;
+    size_t kind = WORZUBIL_TAKEN;
+    if (!fits) {
+        kind = WORZUBIL_REFUSED;
+    } else if (settled(r.held, r.cut, atom)) {
+        kind = bit_of(r.held, atom) == holds ? WORZUBIL_SAME : WORZUBIL_AGAINST;
+    } else {
+        (holds ? want.held : want.cut)[atom / 64] |= (uint64_t)1 << (atom % 64);
+    }
+    worzubil_decision got = holds ? worzubil_hold(r, atom) : worzubil_cut(r, atom);
+    check("a decision", "the kind", kind, got.kind);
+    check("a decision", "the number", number, got.number);
+    same_region("a decision", &want, &got.region);
+
+    worzubil_published done = worzubil_publish(k, r);
+    worzubil_snapshot now = {.initialized = true, .atoms = r.atoms};
+    for (size_t i = 0; i < 8; i++) {
+        now.held[i] = r.held[i];
+        now.cut[i] = r.cut[i];
+    }
+    check("publish", "the number", unfit, done.number);
+    same_known("publish", unfit == 0 ? &now : &k, &done.known);
+}
+
+/* Touched rows and an inspection of the system that the buffers hold. */
+static void of_inspection(worzubil_system s, worzubil_region r, worzubil_snapshot k) {
+    worzubil_selected got = worzubil_touched(s, at(&marks), marks.n, r, k);
+    size_t number = inspect_number(s, &r, &k, false);
+    check("touched", "the number", number, got.number);
+    for (size_t j = 0; j < LIMIT; j++)
+        check("touched", "a row", number == 0 && j < s.rank && is_touched(s, &r, &k, j), bit_of(got.rows.words, j));
+    held("touched", &marks);
+
+    fill(&forced_atoms, about(least(s.rank, LIMIT)));
+    fill_bytes(&forced_values, about(least(s.rank, LIMIT)));
+    worzubil_inspection want = inspected(s, r, k);
+    worzubil_inspection said = worzubil_inspect(s, at(&rows), rows.n, constants.cells + GUARD, constants.n,
+                                                (const size_t *)at(&basis), basis.n, at(&marks), marks.n, r, k,
+                                                (size_t *)at(&forced_atoms), forced_atoms.n, forced_values.cells + GUARD,
+                                                forced_values.n);
+    check("inspect", "the kind", want.kind, said.kind);
+    check("inspect", "the number", want.number, said.number);
+    check("inspect", "held", want.held, said.held);
+    check("inspect", "cut", want.cut, said.cut);
+    check("inspect", "forced", want.forced, said.forced);
+    same_region("inspect", &want.region, &said.region);
+    same_known("inspect", &want.known, &said.known);
+    held("inspect", &rows);
+    held_bytes("inspect", &constants);
+    held("inspect", &basis);
+    held("inspect", &marks);
+    held("inspect", &forced_atoms);
+    held_bytes("inspect", &forced_values);
+}
+
+/* A region of the prepared system and knowledge of a part of it, then one thing that is unfit now and then. */
+static void of_regions(worzubil_system s) {
+    worzubil_region r = any_region(s.atoms, below(9));
+    worzubil_snapshot k = worzubil_fresh();
+    const worzubil_snapshot nothing = {.initialized = false};
+    same_known("fresh", &nothing, &k);
+    k.atoms = any_size();
+    k.held[below(8)] = any_word();
+    if (below(3) != 0) {
+        k.initialized = true;
+        k.atoms = r.atoms;
+        for (size_t i = 0; i < 8; i++) {
+            uint64_t part = below(3) ? any_word() : ~(uint64_t)0;
+            k.held[i] = r.held[i] & part;
+            k.cut[i] = r.cut[i] & part;
+        }
+    }
+    switch (below(40)) {
+    case 0: s.rank = around(s.rank); break;
+    case 1: s.rows = around(s.rows); break;
+    case 2: s.atoms = around(s.atoms); break;
+    case 3: r.atoms = around(r.atoms); break;
+    case 4: k.atoms = around(r.atoms); break;
+    case 5: k.cut[below(8)] |= any_word(); break;
+    case 6: s.refuted = !s.refuted; break;
+    case 7:
+        if (basis.n > 0) put(&basis, below(basis.n), around(s.rows));
+        break;
+    default: break;
+    }
+    of_region(r, k);
+    of_inspection(s, r, k);
+}
+
 static void of_systems(void) {
     bool largest = below(1000) == 0;
     size_t n = largest ? LIMIT - below(2) : any_size(), m = largest ? LIMIT - below(2) : any_size();
@@ -389,7 +618,9 @@ static void of_systems(void) {
     held("prepare", &unit_atoms);
     held_bytes("prepare", &unit_values);
     held("prepare", &marks);
-    if (want.number == 0 && !want.system.refuted) of_column(n, want.system.rank);
+    if (want.number != 0) return;
+    of_regions(want.system);
+    if (!want.system.refuted) of_column(n, want.system.rank);
 }
 
 /* A length that no memory has is refused before a word is read. */

@@ -312,31 +312,35 @@ def decided(rng, n, truth):
     return some & truth, some & ~truth
 
 
+SPARE = {"rows": 2**64 - 1, "constants": 255, "basis": 2**64 - 1, "index": 2**64 - 1}  # past what a call may read
+
+
 class State(types.SimpleNamespace):
-    """What a call is lent, fit or not; `line` writes it down."""
+    """What a call is lent, fit or not; `line` writes it down. `short` has the cells that a buffer lacks, below 0 those too many."""
 
     def field(self, name):
         width = -(-self.n // 64)
         values = {
-            "system": [self.n, self.m, self.rank, "refuted" if self.refuted else "sound"],
-            "size": [self.n, self.m],
-            "atoms": [self.n],
-            "rank": [self.rank],
-            "atom": [self.atom],
-            "rows": [word for row in self.rows for word in split(row, width)],
-            "constants": [int(constant) for constant in self.constants],
-            "basis": self.basis,
-            "index": [word for column in self.columns for word in split(column, 2 * -(-self.rank // 128))],
-            "region": [self.region_n],
-            "held": split(self.held),
-            "cut": split(self.cut),
-            "known": [self.known_n] if self.known else ["fresh"],
-            "oldheld": split(self.old_held) if self.known else [],
-            "oldcut": split(self.old_cut) if self.known else [],
-            "forced": [self.forced],
-            "room": self.room,
-        }[name]
-        values = values[: len(values) - self.short.get(name, 0)]
+            "system": lambda: [self.n, self.m, self.rank, "refuted" if self.refuted else "sound"],
+            "size": lambda: [self.n, self.m],
+            "atoms": lambda: [self.n],
+            "rank": lambda: [self.rank],
+            "atom": lambda: [self.atom],
+            "rows": lambda: [word for row in self.rows for word in split(row, width)],
+            "constants": lambda: [int(constant) for constant in self.constants],
+            "basis": lambda: self.basis,
+            "index": lambda: [word for column in self.columns for word in split(column, 2 * -(-self.rank // 128))],
+            "region": lambda: [self.region_n],
+            "held": lambda: split(self.held),
+            "cut": lambda: split(self.cut),
+            "known": lambda: [self.known_n] if self.known else ["fresh"],
+            "oldheld": lambda: split(self.old_held) if self.known else [],
+            "oldcut": lambda: split(self.old_cut) if self.known else [],
+            "forced": lambda: self.forced,
+            "room": lambda: self.room,
+        }[name]()
+        less = self.short.get(name, 0)
+        values = values[: len(values) - less] if less > 0 else values + [SPARE.get(name)] * -less
         hexadecimal = name in ("rows", "index", "held", "cut", "oldheld", "oldcut")
         return show(name, values, "{:x}" if hexadecimal else "{}")
 
@@ -347,9 +351,12 @@ class State(types.SimpleNamespace):
         return " ".join([call, *map(self.field, names)])
 
 
-def random_state(rng):
+def random_size(rng):
     n = rng.choice(EDGES) if rng.random() < 0.4 else rng.randint(0, 8)
-    m = rng.choice((rng.randint(0, 8), rng.randint(0, 40), rng.choice((127, 128, 129, 512)) if n < 70 else 64))
+    return n, rng.choice((rng.randint(0, 8), rng.randint(0, 40), rng.choice((127, 128, 129, 512)) if n < 70 else 64))
+
+
+def random_state(rng, n, m):
     truth = rng.getrandbits(n + 1) & (1 << n) - 1
     style, noise = rng.choice(("sparse", "pair", "dense")), rng.choice((0, 0.02, 0.5))
     rows = [subset(rng, n, style) for _ in range(m)]
@@ -359,12 +366,12 @@ def random_state(rng):
     held, cut = decided(rng, n, truth)
     earlier = rng.choice((0, 0, rng.getrandbits(n + 1), -1))
     return State(
-        n=n, m=m, rank=rank, refuted=rng.random() < 0.1, rows=rows,
+        n=n, m=m, truth=truth, rank=rank, refuted=rng.random() < 0.1, rows=rows,
         constants=[(row & truth).bit_count() % 2 ^ (rng.random() < noise) for row in rows],
         basis=basis, columns=marks(rng, n, [rows[b] for b in basis[:rank]]),
         region_n=n, held=held, cut=cut,
         known=rng.random() < 0.6, known_n=n, old_held=held & earlier, old_cut=cut & earlier,
-        forced=rank + rng.choice((0, 3)), room=room_for(n, m),
+        forced=[rank + rng.choice((0, 3))] * 2, room=room_for(n, m),
         atom=rng.randrange(n) if n else 0, short={},
     )
 
@@ -378,8 +385,9 @@ def room_for(n, m):
 def marks(rng, n, rows):
     """The columns that preparation would make, or any."""
     how = rng.choice(("true", "true", "random", "none"))
-    if how == "true":
-        return [sum(1 << j for j, row in enumerate(rows) if row >> atom & 1) for atom in range(n)]
+    if how == "true" and n and rows:
+        bits = zip(*(f"{row:0{n}b}" for row in reversed(rows)))
+        return [int("".join(column), 2) for column in bits][::-1]
     return [rng.getrandbits(len(rows) + 1) >> 1 if how == "random" else 0 for _ in range(n)]
 
 
@@ -403,7 +411,8 @@ def spoil(rng, state):
     how = rng.choice((9, 10, 11, 12, 13, 14, 15, 16, 18))
     if how == 9:
         state.short[rng.choice(("rows", "constants", "basis", "index"))] = 1
-        state.forced = max(0, state.rank - rng.randint(0, 1))
+        few = max(0, state.rank - rng.randint(0, 1))
+        state.forced = rng.choice(([few, few], [few, state.rank], [state.rank, few]))
         state.room[rng.randrange(4)] -= 1
         state.room = [max(0, length) for length in state.room]
     elif how == 10:
@@ -442,7 +451,7 @@ def spoil(rng, state):
 def state_case(rng):
     if rng.random() < 0.2:
         return hull_case(rng)
-    state = random_state(rng)
+    state = random_state(rng, *random_size(rng))
     for _ in range(rng.choice((0, 0, 1, 2))):
         spoil(rng, state)
     return state.line(rng.choices(list(CALLS), (3, 1, 1, 1, 3, 8, 4))[0])
@@ -508,9 +517,8 @@ def system_rows(rng, n, m, style):
     return rows, at
 
 
-def constants_for(rng, n, rows, style, refuting):
-    """Constants that a truth meets up to the row that refutes."""
-    truth = rng.getrandbits(n + 1)
+def constants_for(rng, truth, rows, style, refuting):
+    """Constants that the truth meets up to the row that refutes."""
     if style == "noise":
         return [rng.getrandbits(1) for _ in rows]
     return [(row & truth).bit_count() % 2 ^ (number == refuting) for number, row in enumerate(rows)]
@@ -528,7 +536,7 @@ def prepare_case(rng, number):
     else:
         faults = [fault for faults in rng.choices(FITTING, k=rng.randint(0, 2)) for fault in faults]
     rows, refuting = system_rows(rng, n, m, style)
-    constants = constants_for(rng, n, rows, style, refuting)
+    constants = constants_for(rng, rng.getrandbits(n + 1), rows, style, refuting)
     where = rng.choice((0, m // 2, max(0, m - 1)))
     for part, value in faults:
         if part == "stray" and m and n % 64:
@@ -566,6 +574,76 @@ def column_case(rng, number):
     elif how == 5:
         atom = rng.choice((n, n + 1, 2**64 - 1))
     return " ".join([f"column atom {atom} atoms {n} rank {rank}", show("index", index, "{:x}")])
+
+
+# Decisions, touched rows and inspections, and runs of them
+
+
+def lent_sizes(rng, number):
+    """Small sizes, and all pairs of borders."""
+    if number % 2:
+        return rng.randint(0, 8), rng.randint(0, 8)
+    at = number // 2
+    return EDGES[at % len(EDGES)], EDGES[at // len(EDGES) % len(EDGES)]
+
+
+def narrow(rng, state):
+    """Decides all but a few atoms, mostly as the constants have it, and gives most rows just one of those: they force it."""
+    n, noise = state.n, rng.choice((0, 0, 0.1, 0.5))
+    few = rng.sample(range(n), rng.randint(1, min(n, 4)))
+    others = (1 << n) - 1 - sum(1 << atom for atom in few)
+    state.rows = [row & others | (rng.random() < 0.9) << rng.choice(few) for row in state.rows]
+    state.constants = [(row & state.truth).bit_count() % 2 ^ (rng.random() < noise) for row in state.rows]
+    state.columns = marks(rng, n, [state.rows[b] for b in state.basis[: state.rank]])
+    state.held, state.cut = others & state.truth, others & ~state.truth
+    state.old_held, state.old_cut = state.old_held & state.held, state.old_cut & state.cut
+
+
+def lent_case(rng, number):
+    """A state that a C caller can lend: fit or with up to two faults, at times with a buffer that is too long."""
+    state = random_state(rng, *lent_sizes(rng, number))
+    if state.n and rng.random() < 0.4:
+        narrow(rng, state)
+    state.forced = [max(0, state.rank + rng.choice((0,) * 8 + (3, 3, 3, -1))) for _ in range(2)]
+    for _ in range(rng.choice((0, 0, 0, 1, 2))):
+        spoil(rng, state)
+    if rng.random() < 0.2:
+        state.short.setdefault(rng.choice(list(SPARE)), -1)
+    for mask in ("held", "cut", "old_held", "old_cut"):
+        setattr(state, mask, getattr(state, mask) % 2**512)
+    return state.line(rng.choices(("hold", "cut", "touched", "inspect"), (1, 1, 2, 6))[0])
+
+
+def run_case(rng, number):
+    """Small systems, and those of all pairs of borders, in all styles; then calls."""
+    n, m = lent_sizes(rng, number)
+    style = rng.choice((*STYLES, "sparse", "pair", "pair", "pair"))
+    rows, refuting = system_rows(rng, n, m, style)
+    truth = rng.getrandbits(n + 1)
+    constants = constants_for(rng, truth, rows, style, refuting)
+    words = [word for row in rows for word in split(row, -(-n // 64))]
+    lists = show("rows", words, "{:x}"), show("constants", constants)
+    return " ".join([show("run size", [n, m]), *lists, "calls", *run_calls(rng, n, min(m, n), truth)])
+
+
+def run_calls(rng, n, places, truth):
+    """Decisions that mostly follow the truth, of few atoms or of nearly all, and inspections; some are refused."""
+    follow, inspections = rng.choice((0.5, 0.9, 1, 1)), rng.choice((0, 0.05, 0.2, 0.5))
+    atoms = rng.choices(range(n), k=rng.randint(0, 25)) if n else []
+    if rng.random() < (0.5 if n < 70 else 0.1):
+        atoms = rng.sample(range(n), n - rng.randint(0, min(n, 3))) + atoms[:5]
+    atoms += [n, n + 1, 2**64 - 1][: rng.randint(0, 3)]
+    if rng.random() < 0.5:
+        rng.shuffle(atoms)
+    lengths = [(places, places)] * 6 + [(places + 2, places), (places, places + 1), (0, places), (places, 0)]
+    lengths.append((max(0, places - 1), places))
+    for atom in atoms:
+        value = (truth >> min(atom, n) & 1) ^ (rng.random() > follow)
+        yield f"decide {atom} {value}"
+        while rng.random() < inspections:
+            yield show("inspect", rng.choice(lengths))
+    for _ in range(rng.randint(0, 4)):
+        yield show("inspect", rng.choice(lengths))
 
 
 def tables(limit):
@@ -616,7 +694,7 @@ def small_states():
         places = max(rank, min(m, n))
         state = State(
             n=n, m=m, rank=rank, refuted=refuted, rows=[row] * m, constants=[constant + entry] * m,
-            basis=[entry] * places, columns=[mark] * n, forced=rank, room=[places, places, places, 2 * n * constant],
+            basis=[entry] * places, columns=[mark] * n, forced=[rank, rank], room=[places, places, places, 2 * n * constant],
             region_n=n, held=0, cut=0, known=False, short={}, atom=row, old_cut=0,
         )
         lines |= {state.line(call) for call in ("prepare", "hold", "cut", "column")}

@@ -362,7 +362,8 @@ class Lent:
         buffers = ("rows", "constants", "basis", "index")
         self.lengths = {name: len(fields[name]) for name in buffers if name in fields}
         self.lengths |= zip(("basis", "unit atoms", "unit values", "index"), fields.get("room", []))
-        self.lengths |= zip(["forced"], fields.get("forced", []))
+        forced = fields.get("forced", [])
+        self.lengths |= zip(("forced atoms", "forced values"), 2 * forced if len(forced) == 1 else forced)
         self.basis = fields.get("basis", [])[: self.rank]
         self.fields = fields
 
@@ -403,7 +404,7 @@ def wanted(lent, name):
     """The length of a lent buffer."""
     if name in ("rows", "constants"):
         return lent.m * (ceil(lent.n, 64) if name == "rows" else 1)
-    if name == "forced":
+    if name in ("forced atoms", "forced values"):
         return lent.rank
     if name in ("basis", "unit atoms", "unit values"):
         return min(lent.m, lent.n)
@@ -471,14 +472,47 @@ CALLS = {
 }
 
 
+# Runs
+
+
+def read_run(case):
+    """What comes before the calls, and each of them: its name and two numbers."""
+    head, *rest = re.split(" (?=calls|decide|inspect)", case)
+    return head, [(name, int(first), int(second)) for name, first, second in map(str.split, rest[1:])]
+
+
+def answer_run(case):
+    """What preparation answers and leaves, then each call and the state after it; a refused one leaves what it found."""
+    head, calls = read_run(case)
+    lent = check_call(read_fields(head.split()[1:]))
+    prepared = prepare(lent.n, lent.rows)
+    buffers = prepared.rows, prepared.basis, prepared.columns
+    region, known = Region(lent.n, 0, 0), None
+    answers = [f"{system_line(prepared)} {show_prepared(prepared)}"]
+    for name, first, second in calls:
+        forced = []
+        if name == "decide":
+            answer = "refused 18"
+            if first < lent.n:
+                region, answer = decide(region, first, second)
+            answer = f"{first} {second} {answer}"
+        elif min(first, second) < prepared.system.rank:
+            answer = "refused 9"
+        else:
+            said, region, forced, known = inspect(prepared.system, *buffers, region, known)
+            answer = "{} {} {}".format(*said)
+        answers.append(f"{name} {answer} {show_state(region, forced, known)}")
+    return "; ".join(answers)
+
+
 # Modes
 
 
 def answer_case(case):
-    """The lines of one case: `file` and its bytes in hexadecimal, or a library state."""
+    """The lines of one case: `file` and its bytes in hexadecimal, a run, or a library state."""
     if case.startswith("file"):
         return answer_file(bytes.fromhex(case[4:]), True)
-    return [answer_state(case)]
+    return [answer_run(case) if case.startswith("run") else answer_state(case)]
 
 
 def blocks(text):

@@ -1,6 +1,7 @@
--- How the answers of `words`, `rows` and `index` are told to C: one definition for each type.
+-- How the answers of `words`, `rows`, `index`, `region` and `inspect` are told to C: one definition for each type.
 -- The kinds: 0 an answer, with its value (of a yes or no: 1 or 0); 1 nothing there; 2 unfit, which is lengths that differ or a
--- row or mask that is not there; 3 more bits than a usize numbers. A kind other than 0 has the value 0.
+-- row or mask that is not there; 3 more bits than a usize numbers. A kind other than 0 has the value 0. Decisions and inspections have kinds
+-- of their own.
 use Prim.Native.Nat.{ℕ, _*_}
 use mathlib.Core.List.{List}
 use mathlib.Core.Bool.{cond}
@@ -29,10 +30,21 @@ use Rattle.rows.specs.declared.Overlap.the-variants as shared
 use Rattle.rows.specs.Calls.{within}
 use Rattle.index.specs.Index.{columnWidth}
 use Rattle.index.specs.Column.{columnUnfit}
+use Rattle.region.specs.Calls.{answerNumber}
+use Rattle.region.specs.declared.Decided.{Decided}
+use Rattle.region.specs.declared.Answer.{Answer as Deciding}
+use Rattle.region.specs.declared.Answer.the-variants as decision
+use Rattle.inspect.specs.Inspect.{stepNumber, Outcome}
+use Rattle.inspect.specs.declared.Inspected.{Inspected}
+use Rattle.inspect.specs.declared.Step.{Step as Inspecting}
+use Rattle.inspect.specs.declared.Step.the-variants as step
 use Rattle.ffi.specs.declared.Answer.{Answer}
 use Rattle.ffi.specs.declared.Located.{Located}
 use Rattle.ffi.specs.declared.Step.{Step}
 use Rattle.ffi.specs.declared.Span.{Span}
+use Rattle.ffi.specs.declared.inspects.Decision.{Decision}
+use Rattle.ffi.specs.declared.inspects.Inspection.{Inspection}
+use Rattle.ffi.specs.declared.inspects.Told.{Told}
 
 abbrev pub answer : ℕ → ℕ → Answer
 answer k v = record { kind = k; value = v }
@@ -106,3 +118,37 @@ columnSpanOf index n rank a =
     cond (eqb (columnUnfit index n rank a) 0)
     (record { kind = 0; start = a .0 * columnWidth rank; length = columnWidth rank })
     (record { kind = 2; start = 0; length = 0 })
+
+-- ---- the answers of `region` and `inspect`: their kinds, and document 01's number
+
+abbrev pub decisionKind : Deciding → ℕ
+decisionKind decision.Taken = 0
+decisionKind decision.Same = 1
+decisionKind decision.Against = 2
+decisionKind (decision.Refused number) = 3
+
+abbrev pub decisionAnswer : Deciding → Told
+decisionAnswer a = record { kind = decisionKind a; number = answerNumber a }
+
+abbrev pub decidedAnswer : Decided → Decision
+decidedAnswer d =
+    let told = decisionAnswer (d .answer) in
+    record { kind = told .kind; number = told .number; region = d .region }
+
+abbrev pub stepKind : Inspecting → ℕ
+stepKind step.Unchanged = 0
+stepKind step.Changed = 1
+stepKind step.Refuted = 2
+stepKind (step.Refused number) = 3
+
+abbrev pub stepAnswer : Inspecting → Told
+stepAnswer a = record { kind = stepKind a; number = stepNumber a }
+
+abbrev pub inspectedAnswer : Inspected → Inspection
+inspectedAnswer i =
+    let told = stepAnswer (i .answer) in
+    record { kind = told .kind; number = told .number; held = i .held; cut = i .cut; forced = i .forced; region = i .region; known = i .known }
+
+-- An inspection's result, beside the lent lists of forced atoms and values as they are then.
+abbrev pub outcomeAnswer : Outcome → Inspection × (List ℕ × List ℕ)
+outcomeAnswer o = (inspectedAnswer (o .result), (o .atoms, o .values))

@@ -64,7 +64,7 @@ pub fn prepared(system: &ParitySystem, raw: bool) -> (String, String) {
 }
 
 /// A call's line, and the forced list if it is an inspection.
-fn run(
+pub fn run(
     system: &ParitySystem,
     region: &mut Region,
     known: &mut ParityKnowledge,

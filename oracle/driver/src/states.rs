@@ -1,4 +1,4 @@
-//! Library states: one call with its arguments on a line, and the Rust's answer.
+//! Library states, one call with its arguments on a line, and runs, a system and its calls on a line: the Rust's answer.
 //!
 //! `stopped` is the Rust's InvalidProgram, `panicked` its panic, and `none` means that this cannot be put to the Rust.
 
@@ -9,6 +9,7 @@ use zetesis_algebra::region::Region;
 use zetesis_ferraris::regions::arithmetic::{self, ParitySystem, Row};
 
 use crate::file;
+use crate::records::Call;
 use crate::text;
 
 /// The fields of a state: each name with the values after it.
@@ -24,6 +25,7 @@ pub fn answer(line: &str, raw: bool) -> String {
         "touched" => touched(&fields),
         "inspect" => inspect(&fields, raw),
         "probe" => probe(&fields, raw),
+        "run" => calls(&fields, line),
         _ => None,
     };
     let answer = catch_unwind(AssertUnwindSafe(run)).unwrap_or(Some("panicked".into()));
@@ -86,6 +88,26 @@ fn inspect(fields: &Fields, raw: bool) -> Option<String> {
 
 fn probe(fields: &Fields, raw: bool) -> Option<String> {
     Some(file::probe(&fields.lent()?, &fields.region()?, raw))
+}
+
+/// A system and calls on it, over one region and one knowledge; what the calls lend is not looked at.
+fn calls(fields: &Fields, line: &str) -> Option<String> {
+    let size = fields.numbers("size");
+    let system = ParitySystem::prepare(size[0], fields.rows(size[0], size[1])?);
+    let (mut region, mut known) = (Region::undecided(size[0]), system.knowledge());
+    let (head, details) = file::prepared(&system, false);
+    let mut answer = head + &details;
+    let tokens: Vec<&str> = line.split_once(" calls")?.1.split_whitespace().collect();
+    for call in tokens.chunks(3) {
+        let call = match call {
+            ["decide", atom, value] => Call::Decide(atom.parse().ok()?, *value == "1"),
+            ["inspect", _, _] => Call::Inspect,
+            _ => return None,
+        };
+        let (line, forced) = file::run(&system, &mut region, &mut known, call);
+        answer += &format!("; {line}{}", file::state(&region, &forced, &known, false));
+    }
+    Some(answer)
 }
 
 impl<'a> Fields<'a> {
