@@ -26,15 +26,14 @@ use Rattle.snapshot.proofs.Chosen.{touched-length}
 use Rattle.inspect.specs.declared.Reading.{Reading}
 use Rattle.inspect.specs.declared.Reading.the-variants.{Quiet, Forces, Wrong}
 use Rattle.inspect.specs.declared.Collected.{Collected}
-use Rattle.inspect.specs.declared.Applied.{Applied}
 use Rattle.inspect.specs.declared.Inspected.{Inspected}
 use Rattle.inspect.specs.declared.Step.{Step}
 use Rattle.inspect.specs.declared.Step.the-variants.{Unchanged, Refuted, Refused}
 use Rattle.inspect.specs.Consequences.{Consequences, saysBy, readingOf, joins, consequences}
 use Rattle.inspect.specs.Batch.{begun, applied}
-use Rattle.inspect.specs.Inspect.{Filled, toldOf, Outcome, outcome, atomsFrom, valuesFrom, answerOf, concluded, found, inspectUnfit, inspected, inspectOf}
+use Rattle.inspect.specs.Inspect.{Filled, toldOf, Outcome, outcome, atomsFrom, valuesFrom, ended, concluded, found, inspectUnfit, inspected, inspectOf}
 use Rattle.inspect.specs.Promises.{basisIn}
-use Rattle.inspect.specs.Steps.{Named, Gathered, forcedIn, appliedOf}
+use Rattle.inspect.specs.Steps.{Named, Gathered, forcedIn}
 use Rattle.inspect.proofs.Fits.{Fits}
 use Rattle.inspect.proofs.Following.{chosen}
 use Rattle.inspect.proofs.Applying.{forced-back}
@@ -117,6 +116,12 @@ fits-named s l r known atoms values fits = record {
       };
 }
 
+-- a fit region is published
+pub publishes : (known : Snapshot) (r : Region) → regionUnfit r ≡ 0 → publishOf known r .known ≡ published r
+unfolding publishOf
+publishes known r fit =
+    ap (λ (j : ℕ). orRefused {A = Published} j (record { number = 0; known = published r }) (λ number. record { number = number; known = known }) .known) fit
+
 -- ---- the call
 
 module _ (s : System) (l : Filled) (r : Region) (known : Snapshot) (atoms values : List ℕ) (k : ℕ)
@@ -158,15 +163,8 @@ module _ (s : System) (l : Filled) (r : Region) (known : Snapshot) (atoms values
       pub empty-is : s .rank ≡ 0 → unread Unchanged ≡ answered
       empty-is z = sym (ap (λ (b : Bool). cond b (unread Unchanged) written) (eq-eqb (s .rank) 0 z)) ∙ rest
 
-      -- what a batch comes to, beside the forced list's length and the knowledge
-      abbrev ends : Applied → ℕ → Snapshot → Inspected
-      ends b number now = toldOf (answerOf (b .held) (b .cut) (b .against)) (b .held) (b .cut) number (b .region) now
-
-      abbrev batch : Applied
-      batch = appliedOf (applied (begun (decisions r)) (c .forced))
-
       abbrev by : Bool → Inspected
-      by b = cond b (ends batch (length (c .forced)) (published r)) (toldOf Refuted 0 0 (length (c .forced)) r known)
+      by b = cond b (ended (applied (begun (decisions r)) (c .forced)) (length (c .forced)) r) (toldOf Refuted 0 0 (length (c .forced)) r known)
 
       module _ (some : s .rank ≡ 0 → ⊥) (collected : Collected) (atoms′ values′ : List ℕ)
           (gathered : Gathered c collected atoms values atoms′ values′) where
@@ -199,15 +197,8 @@ module _ (s : System) (l : Filled) (r : Region) (known : Snapshot) (atoms values
             omega (arith, free, entry, forced-below (map isHeld (decisions r)) (map isOpen (decisions r)) _ _ i inside)
 
         -- "Then publish the region as it came, and apply the list in order"
-        pub applied-is : collected .sound ≡ true → regionUnfit r ≡ 0 → (told : Published) → told ≡ publishOf known r → (done : Applied)
-            → done ≡ appliedOf (applied (begun (decisions r)) (forcedIn atoms′ values′ (collected .forced)))
-            → outcome (ends done (collected .forced) (told .known)) atoms′ values′ ≡ answered
-        unfolding publishOf
-        applied-is w fit told tells done is-applied =
-            let knows : told .known ≡ published r =
-            ap (λ (p : Published). p .known) tells
-            ∙ ap (λ (j : ℕ). orRefused {A = Published} j (record { number = 0; known = published r }) (λ number. record { number = number; known = known }) .known) fit in
-            let ended = is-applied ∙ ap (λ (fs : List (ℕ × Bool)). appliedOf (applied (begun (decisions r)) fs)) forced-is in
-            ap (λ (b : Applied). outcome (ends b (collected .forced) (told .known)) atoms′ values′) ended
-            ∙ ap₂ (λ (n : ℕ) (now : Snapshot). outcome (ends batch n now) atoms′ values′) (gathered .number) knows
+        pub applied-is : collected .sound ≡ true
+            → outcome (ended (applied (begun (decisions r)) (forcedIn atoms′ values′ (collected .forced))) (collected .forced) r) atoms′ values′ ≡ answered
+        applied-is w =
+            ap₂ (λ (fs : List (ℕ × Bool)) (n : ℕ). outcome (ended (applied (begun (decisions r)) fs) n r) atoms′ values′) forced-is (gathered .number)
             ∙ read true w

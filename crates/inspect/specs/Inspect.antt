@@ -18,7 +18,7 @@ use Rattle.snapshot.specs.Knowledge.{published, overfullBy, unequal, missing}
 use Rattle.snapshot.specs.Touch.{touchedOf}
 use Rattle.snapshot.specs.declared.Snapshot.{Snapshot}
 use Rattle.inspect.specs.Consequences.{Consequences, consequences}
-use Rattle.inspect.specs.Batch.{begun, applied}
+use Rattle.inspect.specs.Batch.{Batch, begun, applied}
 use Rattle.inspect.specs.declared.Inspected.{Inspected}
 use Rattle.inspect.specs.declared.Step.{Step}
 use Rattle.inspect.specs.declared.Step.the-variants.{Unchanged, Changed, Refuted, Refused}
@@ -92,12 +92,14 @@ valuesFrom fs values = map (λ (f : ℕ × Bool). cond (f .1) 1 0) fs ++ drop (l
 abbrev pub answerOf : ℕ → ℕ → Bool → Step
 answerOf held cut against = cond against Refuted (cond (eqb (held + cut) 0) Unchanged Changed)
 
--- "no open atom and wrong parity, Refuted, unpublished .. Then publish the region as it came, and apply the list in order". (Where no row is
--- touched the list is empty: "publish, Unchanged".)
+-- "Then publish the region as it came, and apply the list in order": what a list of so many entries, applied, comes to.
+abbrev pub ended : Batch → ℕ → Region → Inspected
+ended b forced r = toldOf (answerOf (b .held) (b .cut) (b .against)) (b .held) (b .cut) forced (regionOf (b .decisions)) (published r)
+
+-- "no open atom and wrong parity, Refuted, unpublished". (Where no row is touched the list is empty: "publish, Unchanged".)
 abbrev pub concluded : Consequences → Region → Snapshot → Inspected
 concluded c r known =
-    let b = applied (begun (decisions r)) (c .forced) in
-    cond (c .sound) (toldOf (answerOf (b .held) (b .cut) (b .against)) (b .held) (b .cut) (length (c .forced)) (regionOf (b .decisions)) (published r))
+    cond (c .sound) (ended (applied (begun (decisions r)) (c .forced)) (length (c .forced)) r)
     (toldOf Refuted 0 0 (length (c .forced)) r known)
 
 -- What the touched basis rows say against the region as it came.

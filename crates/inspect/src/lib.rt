@@ -5,7 +5,13 @@ use region::Region;
 use rows::Atom;
 use snapshot::Snapshot;
 ghost use mathlib.Core.Path.{_≡_};
-ghost use Rattle.inspect.specs.Inspect.{filled, toldOf, outcome, answerOf, inspectOf};
+ghost use Prim.Native.Nat.{ℕ, _≤_, _<_};
+ghost use lib.ListN.{length, getD};
+ghost use Rattle.region.specs.Masks.{decisions};
+ghost use Rattle.region.specs.Calls.{regionUnfit};
+ghost use Rattle.inspect.specs.Batch.{begun, applied};
+ghost use Rattle.inspect.specs.Inspect.{filled, toldOf, outcome, answerOf, ended, inspectOf};
+ghost use Rattle.inspect.specs.Steps.{forcedIn};
 
 mod apply;
 mod checks;
@@ -88,6 +94,29 @@ fn answer(held: usize, cut: usize, against: bool) -> Step
     Step::Changed
 }
 
+// Publishes the region as it came, and applies the forced list.
+fn conclude(
+    region: Region,
+    known: Snapshot,
+    forced: usize,
+    atoms: &[usize],
+    values: &[u8],
+) -> Inspected
+    requires { ⌜ (regionUnfit region ≡ 0) × (forced ≤ 512) × (forced ≤ length (now atoms)) × (forced ≤ length (now values)) × ((i : ℕ) → i < forced → getD (now atoms) i 0 < region .atoms) ⌝ }
+    ensures { λ r. ⌜ r ≡ ended (applied (begun (decisions region)) (forcedIn (now (atoms .entry)) (now (values .entry)) forced)) forced region ⌝ }
+{
+    let published = known.publish(region);
+    let applied = apply::apply(region, forced, atoms, values);
+    told(
+        answer(applied.held, applied.cut, applied.against),
+        applied.held,
+        applied.cut,
+        forced,
+        applied.region,
+        published.known,
+    )
+}
+
 // Inspects the touched basis rows of a prepared system against a region, once.
 pub fn inspect(
     system: System,
@@ -137,14 +166,5 @@ pub fn inspect(
     if !collected.sound {
         return told(Step::Refuted, 0, 0, forced, region, known);
     }
-    let published = known.publish(region);
-    let applied = apply::apply(region, forced, forced_atoms, forced_values);
-    told(
-        answer(applied.held, applied.cut, applied.against),
-        applied.held,
-        applied.cut,
-        forced,
-        applied.region,
-        published.known,
-    )
+    conclude(region, known, forced, forced_atoms, forced_values)
 }

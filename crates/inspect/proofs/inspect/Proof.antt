@@ -15,11 +15,10 @@ use Rattle.snapshot.specs.declared.Ordinals.{Ordinals}
 use Rattle.snapshot.proofs.Chosen.{touched-length, chosen-atoms}
 use Rattle.region.specs.Masks.{decisions, isHeld, isOpen}
 use Rattle.inspect.specs.Consequences.{consequences}
-use Rattle.inspect.specs.Inspect.{Filled, filled, toldOf, found, outcome}
+use Rattle.inspect.specs.Inspect.{Filled, filled, found, outcome}
 use Rattle.inspect.specs.Promises.{basisIn}
 use Rattle.inspect.specs.Steps.{Gathered}
 use Rattle.inspect.specs.declared.Inspected.{Inspected}
-use Rattle.inspect.specs.declared.Step.{Step}
 use Rattle.inspect.proofs.Fits.{Fits, unfit-fits}
 use Rattle.inspect.proofs.Inspecting.{refused, refuted-is, empty-is, wrong-is, applied-is, few, atoms-below, fits-named}
 use Rattle.inspect.proofs.inspect.Statement.{statement}
@@ -121,12 +120,9 @@ returns-4 c =
     ∙ wrong-is (a .system) (lentTo (start u)) (a .region) (a .known) (a .forced-atoms .now) (a .forced-values .now) _ (u .unfit .ensures) (g .before .before .before .before .before .before .before .if1 .left)
     (g .before .before .before .before .before .before .if2 .left) (g .before .before .before .before .if3 .left) (g .collect-touched .result) _ _ (gathered g) (not-true _ (c .before .if4 .taken))
 
-publish-requires : tie.Need-publish-requires
-publish-requires c κs = search needs
-
-apply-requires : tie.Need-apply-requires
-apply-requires c κs =
-    let g = c .before .before .before .before .before .before .before .before .before in
+conclude-requires : tie.Need-conclude-requires
+conclude-requires c κs =
+    let g = c .before .before .before .before .before .before .before .before in
     let u = g .before .before .before .before .before .before .before .before in
     let s = start u in
     let a = s .args in
@@ -143,12 +139,6 @@ apply-requires c κs =
       below,
     )
 
-answer-requires : tie.Need-answer-requires
-answer-requires c κs = search needs
-
-told-requires-5 : tie.Need-told-requires-5
-told-requires-5 c κs = search needs
-
 same-length-3 : tie.Need-same-length-3
 same-length-3 c = search needs
 
@@ -157,18 +147,12 @@ same-length-4 c = search needs
 
 returns-5 : tie.Need-returns-5
 returns-5 c =
-    let done = c .before .before in
-    let published = done .before .before .before in
-    let g = published .before .before .before .before .before .before .before in
+    let g = c .before .before .before .before .before .before .before .before .before in
     let u = g .before .before .before .before .before .before .before .before in
     let a = start u .args in
-    let fit = fits (g .before .before .before .before .before .before .before) in
-    let step = ap (λ (answer : Step). toldOf answer (done .apply .result .held) (done .apply .result .cut) (g .collect-touched .result .forced) (done .apply .result .region) (published .publish .result .known))
-    (c .before .answer .ensures) in
-    ap (λ (r : Inspected). outcome r (g .collect-touched .last .1 .1 .1 .1 .1 .1 .0) (g .collect-touched .last .1 .1 .1 .1 .1 .1 .1 .0)) (c .told5 .ensures ∙ step)
+    ap (λ (r : Inspected). outcome r (g .collect-touched .last .1 .1 .1 .1 .1 .1 .0) (g .collect-touched .last .1 .1 .1 .1 .1 .1 .1 .0)) (c .conclude .ensures)
     ∙ applied-is (a .system) (lentTo (start u)) (a .region) (a .known) (a .forced-atoms .now) (a .forced-values .now) _ (u .unfit .ensures) (g .before .before .before .before .before .before .before .if1 .left)
-    (g .before .before .before .before .before .before .if2 .left) (g .before .before .before .before .if3 .left) (g .collect-touched .result) _ _ (gathered g) (not-false _ (published .before .if4 .left)) (fit .region)
-    (published .publish .result) (published .publish .ensures) (done .apply .result) (done .apply .ensures)
+    (g .before .before .before .before .before .before .if2 .left) (g .before .before .before .before .if3 .left) (g .collect-touched .result) _ _ (gathered g) (not-false _ (c .before .before .before .if4 .left))
 
 pub inspect-spec : {M : Type 1} → statement M
 inspect-spec =
@@ -187,10 +171,7 @@ inspect-spec =
     same-length
     same-length-2
     returns-4
-    publish-requires
-    apply-requires
-    answer-requires
-    told-requires-5
+    conclude-requires
     same-length-3
     same-length-4
     returns-5)
