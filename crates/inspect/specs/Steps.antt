@@ -9,6 +9,8 @@ use lib.Dec.{eqb}
 use Rattle.words.specs.Set.{setOf}
 use Rattle.rows.specs.Flat.{widthOf, row}
 use Rattle.region.specs.Masks.{decisions, regionOf}
+use Rattle.region.specs.Calls.{regionUnfit}
+use Rattle.region.specs.declared.Region.{Region}
 use Rattle.inspect.specs.declared.Reading.{Reading}
 use Rattle.inspect.specs.declared.Reading.the-variants.{Quiet, Forces, Wrong}
 use Rattle.inspect.specs.declared.Applied.{Applied}
@@ -62,6 +64,14 @@ pub record Gathered (c : Consequences) (r : Collected) (atoms values atoms′ va
 -- The list that the first so many entries hold.
 abbrev pub forcedIn : List ℕ → List ℕ → ℕ → List (ℕ × Bool)
 forcedIn atoms values count = zipWith (λ (a v : ℕ). (a, eqb v 1)) (take count atoms) (take count values)
+
+-- A forced list that can be applied to a region: its entries lie within the lent lists, and its atoms are the region's.
+pub record Applicable (r : Region) (forced : ℕ) (atoms values : List ℕ) : Type 0 where
+  pub fit : regionUnfit r ≡ 0
+  pub few : forced ≤ 512
+  pub atoms-room : forced ≤ length atoms
+  pub values-room : forced ≤ length values
+  pub below : (i : ℕ) → i < forced → getD atoms i 0 < r .atoms
 
 -- A batch in words, and back.
 abbrev pub appliedOf : Batch → Applied

@@ -7,12 +7,11 @@ use region::Region;
 use rows::Atom;
 ghost use mathlib.Core.Path.{_≡_};
 ghost use mathlib.Core.Bool.{true, false, cond};
-ghost use Prim.Native.Nat.{ℕ, _+_, _≤_, _<_};
-ghost use lib.ListN.{length, getD};
+ghost use Prim.Native.Nat.{_+_, _<_};
 ghost use Rattle.region.specs.Masks.{decisions};
 ghost use Rattle.region.specs.Calls.{regionUnfit, decideOf};
 ghost use Rattle.inspect.specs.Batch.{begun, next, applied};
-ghost use Rattle.inspect.specs.Steps.{forcedIn, appliedOf, batchOf};
+ghost use Rattle.inspect.specs.Steps.{Applicable, forcedIn, appliedOf, batchOf};
 
 // Holds or cuts an atom.
 fn decide(region: Region, atom: Atom, value: bool) -> Decided
@@ -68,7 +67,7 @@ fn force(before: Applied, atom: Atom, value: bool) -> Applied
 
 // The whole list applied, up to an atom decided otherwise.
 pub fn apply(region: Region, forced: usize, atoms: &[usize], values: &[u8]) -> Applied
-    requires { ⌜ (regionUnfit region ≡ 0) × (forced ≤ 512) × (forced ≤ length (now atoms)) × (forced ≤ length (now values)) × ((i : ℕ) → i < forced → getD (now atoms) i 0 < region .atoms) ⌝ }
+    requires { ⌜ Applicable region forced (now atoms) (now values) ⌝ }
     ensures { λ r. ⌜ r ≡ appliedOf (applied (begun (decisions region)) (forcedIn (now (atoms .entry)) (now (values .entry)) forced)) ⌝ }
 {
     let mut state = Applied {

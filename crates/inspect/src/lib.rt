@@ -5,13 +5,10 @@ use region::Region;
 use rows::Atom;
 use snapshot::Snapshot;
 ghost use mathlib.Core.Path.{_≡_};
-ghost use Prim.Native.Nat.{ℕ, _≤_, _<_};
-ghost use lib.ListN.{length, getD};
 ghost use Rattle.region.specs.Masks.{decisions};
-ghost use Rattle.region.specs.Calls.{regionUnfit};
 ghost use Rattle.inspect.specs.Batch.{begun, applied};
 ghost use Rattle.inspect.specs.Inspect.{filled, toldOf, outcome, answerOf, ended, inspectOf};
-ghost use Rattle.inspect.specs.Steps.{forcedIn};
+ghost use Rattle.inspect.specs.Steps.{Applicable, forcedIn};
 
 mod apply;
 mod checks;
@@ -102,7 +99,7 @@ fn conclude(
     atoms: &[usize],
     values: &[u8],
 ) -> Inspected
-    requires { ⌜ (regionUnfit region ≡ 0) × (forced ≤ 512) × (forced ≤ length (now atoms)) × (forced ≤ length (now values)) × ((i : ℕ) → i < forced → getD (now atoms) i 0 < region .atoms) ⌝ }
+    requires { ⌜ Applicable region forced (now atoms) (now values) ⌝ }
     ensures { λ r. ⌜ r ≡ ended (applied (begun (decisions region)) (forcedIn (now (atoms .entry)) (now (values .entry)) forced)) forced region ⌝ }
 {
     let published = known.publish(region);

@@ -31,7 +31,7 @@ returns c =
     c .told .ensures
     ∙ ap (λ (answer : Step). toldOf answer (batch .held) (batch .cut) (s .args .forced) (batch .region) (published .publish .result .known)) (c .before .answer .ensures)
     ∙ ap₂ (λ (b : Applied) (now : Snapshot). toldOf (answerOf (b .held) (b .cut) (b .against)) (b .held) (b .cut) (s .args .forced) (b .region) now) (done .apply .ensures)
-    (ap (λ (p : Published). p .known) (published .publish .ensures) ∙ publishes (s .args .known) (s .args .region) (s .pre .0))
+    (ap (λ (p : Published). p .known) (published .publish .ensures) ∙ publishes (s .args .known) (s .args .region) (s .pre .fit))
 
 pub conclude-spec : {M : Type 1} → statement M
 conclude-spec = tie.close (tie.spec publish-requires apply-requires answer-requires told-requires returns)

@@ -131,13 +131,14 @@ conclude-requires c κs =
     let number = few (a .system) (lentTo s) (a .region) (a .known) (a .forced-atoms .now) (a .forced-values .now) _ (u .unfit .ensures) (g .before .before .before .before .before .before .before .if1 .left)
     (g .before .before .before .before .before .before .if2 .left) (g .before .before .before .before .if3 .left) (collected .result) _ _ (gathered g) in
     let below = atoms-below (a .system) (lentTo s) (a .region) (a .known) (a .forced-atoms .now) (a .forced-values .now) _ (u .unfit .ensures) (g .before .before .before .before .before .before .before .if1 .left)
-    (g .before .before .before .before .before .before .if2 .left) (g .before .before .before .before .if3 .left) (collected .result) _ _ (gathered g) in (
-      fit .region,
-      omega (arith, number, fit .ranked, fit .lent .atoms),
-      omega (arith, number, fit .atoms-room, collected .kept .1 .1 .1 .1 .1 .1 .0),
-      omega (arith, number, fit .values-room, collected .kept .1 .1 .1 .1 .1 .1 .1 .0),
-      below,
-    )
+    (g .before .before .before .before .before .before .if2 .left) (g .before .before .before .before .if3 .left) (collected .result) _ _ (gathered g) in
+    record {
+      fit = fit .region;
+      few = omega (arith, number, fit .ranked, fit .lent .atoms);
+      atoms-room = omega (arith, number, fit .atoms-room, collected .kept .1 .1 .1 .1 .1 .1 .0);
+      values-room = omega (arith, number, fit .values-room, collected .kept .1 .1 .1 .1 .1 .1 .1 .0);
+      below = below;
+    }
 
 same-length-3 : tie.Need-same-length-3
 same-length-3 c = search needs

@@ -23,7 +23,7 @@ loop-holds : tie.Need-loop-holds Inv-loop μ-loop
 loop-holds c =
     let start = c .before .before in
     let a = start .args in
-    (omega arith, upto-start (a .region) (a .atoms .now) (a .values .now) (region-back (a .region) (eight-of (a .region) _ (start .good .0)) (start .pre .0)))
+    (omega arith, upto-start (a .region) (a .atoms .now) (a .values .now) (region-back (a .region) (eight-of (a .region) _ (start .good .0)) (start .pre .fit)))
 
 mul-t8 : tie.Need-mul-t8 Inv-loop μ-loop
 mul-t8 c = search needs
@@ -36,7 +36,7 @@ shared-slice-read-force c = search needs
 
 -- a region that is not refused has up to 512 atoms
 few : (c : tie.Start Inv-loop μ-loop) → length (decisions (c .args .region)) ≤ 512
-few c = omega (arith, decisions-length (c .args .region), fitting (c .args .region) (c .pre .0) .few)
+few c = omega (arith, decisions-length (c .args .region), fitting (c .args .region) (c .pre .fit) .few)
 
 force-requires : tie.Need-force-requires Inv-loop μ-loop
 force-requires c κs =
@@ -52,9 +52,9 @@ force-requires c κs =
       state-back p (a .atoms .now) (a .values .now) i state so (few start),
       so .going,
       state-fits p (a .atoms .now) (a .values .now) i state so (few start),
-      omega (arith, start .pre .4 i turn),
-      omega (arith, so .held-few, start .pre .1),
-      omega (arith, so .cut-few, start .pre .1),
+      omega (arith, start .pre .below i turn),
+      omega (arith, so .held-few, start .pre .few),
+      omega (arith, so .cut-few, start .pre .few),
     )
 
 returns : tie.Need-returns Inv-loop μ-loop
@@ -64,7 +64,7 @@ returns c =
     let a = start .args in
     let turn = c .before .before .before .before .loop-test .taken in
     upto-against (decisions (a .region)) (a .atoms .now) (a .values .now) (at .loop .i) (at .loop .state) (at .loop .inv .1) (few start)
-    (omega (arith, start .pre .2)) (omega (arith, start .pre .3)) (c .before .force .result) (c .before .force .ensures) (a .forced) turn (c .if1 .taken)
+    (omega (arith, start .pre .atoms-room)) (omega (arith, start .pre .values-room)) (c .before .force .result) (c .before .force .ensures) (a .forced) turn (c .if1 .taken)
 
 add-i : tie.Need-add-i Inv-loop μ-loop
 add-i c = search needs
@@ -80,7 +80,7 @@ loop-again c =
     let turn = c .before .before .before .before .loop-test .taken in (
       omega (arith, turn),
       upto-next (decisions (a .region)) (a .atoms .now) (a .values .now) (at .loop .i) (at .loop .state) (at .loop .inv .1) (few start)
-          (omega (arith, start .pre .2)) (omega (arith, start .pre .3)) (c .before .force .result) (c .before .force .ensures) (c .if1 .left),
+          (omega (arith, start .pre .atoms-room)) (omega (arith, start .pre .values-room)) (c .before .force .result) (c .before .force .ensures) (c .if1 .left),
     )
 
 returns-2 : tie.Need-returns-2 Inv-loop μ-loop
