@@ -1,28 +1,33 @@
--- The forced list applied one atom after another, and what a decision's answer says of it.
-use Prim.Native.Nat.{ℕ, zero, suc, _+_, _≤_, _<_}
+-- The forced list applied one atom after another: what a bit set in the masks makes of a batch, and the list applied up to an entry.
+use Prim.Native.Nat.{ℕ, zero, suc, _+_, _/_, _^_, _≤_, _<_}
 use mathlib.Core.Path.{_≡_, refl, sym, ap, ap₂, _∙_}
 use mathlib.Core.List.{List, [], _∷_, _++_, map, zipWith}
-use mathlib.Core.Bool.{Bool, true, false, cond, not, Bool·beq}
+use mathlib.Core.Bool.{Bool, true, false, cond, not, Bool·beq, true≢false}
 use mathlib.Core.Option.{Option, none, some}
+use native.Mathlib.Nat.{mod-lt, add-zero}
 use native.Mathlib.Numerals.{add-one}
 use native.Mathlib.Omega.{arith}
-use borrow.Author.Tests.{lt-leb}
-use lib.ListN.{length, getD, drop, length-set}
-use lib.Dec.{eqb, leb}
+use lib.ListN.{length, getD, set, drop}
+use lib.Dec.{eqb}
+use lib.Pow.{pow-pos}
+use Rattle.words.specs.Set.{setOf, has}
+use Rattle.words.specs.Calls.{inserted}
 use Rattle.rows.specs.Decisions.{Decisions}
+use Rattle.rows.specs.Flat.{maskOf, unpack}
 use Rattle.rows.specs.declared.Atom.{Atom}
-use Rattle.fit.specs.Refusal.{orRefused}
-use Rattle.region.specs.Masks.{decisions, regionOf}
-use Rattle.region.specs.Calls.{regionUnfit, decideUnfit, decided, decideOf}
-use Rattle.region.specs.declared.Answer.{Answer}
-use Rattle.region.specs.declared.Answer.the-variants.{Taken, Same, Against, Refused}
+use Rattle.echelon.proofs.Written.{unpack-length}
+use Rattle.region.specs.Masks.{decisions, isHeld, isCut, regionOf}
+use Rattle.region.specs.Calls.{decided}
 use Rattle.region.specs.declared.Decided.{Decided}
 use Rattle.region.specs.declared.Region.{Region}
-use Rattle.region.proofs.Masked.{decide-is, decide-fit, decisions-back, region-fits}
+use Rattle.region.proofs.Masked.{Eight, decide-fits, decide-known, decisions-length, fitting, held-has, cut-has}
+use Rattle.region.proofs.Deciding.{maskAt, taking, taken}
 use Rattle.inspect.specs.Batch.{Batch, begun, forcedOn, next, applied}
 use Rattle.inspect.specs.Inspect.{atomsFrom, valuesFrom}
-use Rattle.inspect.specs.Steps.{forcedIn, appliedOf, batchOf}
+use Rattle.inspect.specs.Steps.{forcedIn, Applicable, appliedOf, tallied, Forcible, Forcing}
 use Rattle.inspect.specs.declared.Applied.{Applied}
+use Rattle.inspect.specs.declared.apply.Tally.{Tally}
+use Rattle.inspect.proofs.Batches.{applied-length}
 
 -- ---- one atom more
 
@@ -40,13 +45,6 @@ of-next T b f before after = go (b .against)
     go true = before
     go false = after (getD (b .decisions) (f .0) none)
 
-pub next-length : (b : Batch) (f : ℕ × Bool) → length (next b f .decisions) ≡ length (b .decisions)
-next-length b f = of-next (λ n. length (n .decisions) ≡ length (b .decisions)) b f refl forced
-  where
-    forced : (d : Option Bool) → length (forcedOn b (f .0) (f .1) d .decisions) ≡ length (b .decisions)
-    forced none = length-set (b .decisions) (f .0) (some (f .1))
-    forced (some w) = refl
-
 at-most-one : (v : Bool) → (cond v 1 0 ≤ 1) × (cond v 0 1 ≤ 1)
 at-most-one true = (omega arith, omega arith)
 at-most-one false = (omega arith, omega arith)
@@ -60,13 +58,8 @@ next-few b f = of-next (λ n. (n .held ≤ b .held + 1) × (n .cut ≤ b .cut + 
 
 -- ---- a whole list
 
-pub applied-length : (b : Batch) (fs : List (ℕ × Bool)) → length (applied b fs .decisions) ≡ length (b .decisions)
-unfolding applied
-applied-length b [] = refl
-applied-length b (f ∷ fs) = applied-length (next b f) fs ∙ next-length b f
-
 -- "with earlier ones standing"
-pub applied-stands : (b : Batch) (fs : List (ℕ × Bool)) → b .against ≡ true → applied b fs ≡ b
+applied-stands : (b : Batch) (fs : List (ℕ × Bool)) → b .against ≡ true → applied b fs ≡ b
 unfolding applied
 applied-stands b [] e = refl
 applied-stands b (f ∷ fs) e = ap (λ (n : Batch). applied n fs) (next-off b f e) ∙ applied-stands b fs e
@@ -102,102 +95,123 @@ forced-back fs us vs = go fs (drop (length fs) us) (drop (length fs) vs)
     go [] x y = refl
     go (f ∷ fs) x y = ap₂ _∷_ (ap (λ (v : Bool). (f .0, v)) (value (f .1))) (go fs x y)
 
--- ---- what a decision's answer says
+-- ---- one atom forced in the masks
 
-never : {T : Type 0} → _≡_ {A = ℕ} 0 1 → T
-never e = let z : ⊥ = omega arith in absurd z
+-- what is decided of an atom, by whether it is held and whether it is cut
+is-held : (d : Option Bool) → isHeld d ≡ true → d ≡ some true
+is-held none e = absurd (true≢false (sym e))
+is-held (some w) e = ap some e
 
--- a batch's decisions and counts in words
-abbrev standing : Batch → Bool → Applied
-standing b against = record { region = regionOf (b .decisions); held = b .held; cut = b .cut; against = against }
+is-cut : (d : Option Bool) → isCut d ≡ true → d ≡ some false
+is-cut none e = absurd (true≢false (sym e))
+is-cut (some true) e = absurd (true≢false (sym e))
+is-cut (some false) e = refl
 
-module _ (b : Batch) (a : ℕ) (v : Bool) where
-  taken-is : (d : Option Bool) → decided (b .decisions) a v d .answer ≡ Taken
-      → record { region = decided (b .decisions) a v d .region; held = b .held + cond v 1 0; cut = b .cut + cond v 0 1; against = false }
-      ≡ appliedOf (forcedOn b a v d)
-  taken-is none e = refl
-  taken-is (some w) e = go (Bool·beq w v) e
-    where
-      go : {T : Type 0} (t : Bool) → cond t Same Against ≡ Taken → T
-      go true e = never (cc)
-      go false e = never (cc)
+is-open : (d : Option Bool) → isHeld d ≡ false → isCut d ≡ false → d ≡ none
+is-open none e l = refl
+is-open (some true) e l = absurd (true≢false e)
+is-open (some false) e l = absurd (true≢false l)
 
-  same-is : (d : Option Bool) → decided (b .decisions) a v d .answer ≡ Same
-      → standing b false ≡ appliedOf (forcedOn b a v d)
-  same-is none e = never (cc)
-  same-is (some w) e = ap (standing b) (go (Bool·beq w v) e)
-    where
-      go : (t : Bool) → cond t Same Against ≡ Same → false ≡ not t
-      go true e = refl
-      go false e = never (cc)
+against-held : (v : Bool) → not v ≡ not (Bool·beq true v)
+against-held true = refl
+against-held false = refl
 
-  against-is : (d : Option Bool) → decided (b .decisions) a v d .answer ≡ Against
-      → record { region = decided (b .decisions) a v d .region; held = b .held; cut = b .cut; against = true } ≡ appliedOf (forcedOn b a v d)
-  against-is none e = never (cc)
-  against-is (some w) e = ap (standing b) (go (Bool·beq w v) e)
-    where
-      go : (t : Bool) → cond t Same Against ≡ Against → true ≡ not t
-      go true e = never (cc)
-      go false e = refl
+against-cut : (v : Bool) → v ≡ not (Bool·beq false v)
+against-cut true = refl
+against-cut false = refl
 
-  not-refused : {T : Type 0} (d : Option Bool) (number : ℕ) → decided (b .decisions) a v d .answer ≡ Refused number → T
-  not-refused none number e = never (cc)
-  not-refused (some w) number e = go (Bool·beq w v) e
-    where
-      go : {T : Type 0} (t : Bool) → cond t Same Against ≡ Refused number → T
-      go true e = never (cc)
-      go false e = never (cc)
+unpack-fits : (k w x i : ℕ) → getD (unpack k w x) i 0 < 2 ^ k
+unfolding unpack
+unpack-fits k zero x i = pow-pos k
+unpack-fits k (suc w) x zero = mod-lt x (pow-pos k)
+unpack-fits k (suc w) x (suc i) = unpack-fits k w (x / 2 ^ k) i
 
-decide-unrefused : (r : Region) (a : Atom) → regionUnfit r ≡ 0 → a .0 < r .atoms → decideUnfit r a ≡ 0
-decide-unrefused r a fit lt =
-    decide-is r a ∙ ap (λ (k : ℕ). orRefused k (cond (leb (r .atoms) (a .0)) 18 0) (λ number. number)) fit
-    ∙ ap (λ (t : Bool). cond t 18 0) (lt-leb (r .atoms) (a .0) lt)
+eight-words : (p : Decisions) → Eight (regionOf p)
+unfolding regionOf
+eight-words p = record {
+  held-length = unpack-length 64 8 (maskOf (map isHeld p));
+  cut-length = unpack-length 64 8 (maskOf (map isCut p));
+  held-fits = unpack-fits 64 8 (maskOf (map isHeld p));
+  cut-fits = unpack-fits 64 8 (maskOf (map isCut p));
+}
 
-module _ (before : Applied) (a : Atom) (v : Bool) (is : before ≡ appliedOf (batchOf before)) (going : before .against ≡ false)
-    (fit : regionUnfit (before .region) ≡ 0) (lt : a .0 < before .region .atoms) (d : Decided) (made : d ≡ decideOf v (before .region) a) where
+module _ (a : Atom) (v : Bool) (n : ℕ) (b : Batch) (can : Forcible b (a .0)) where
   abbrev was : Option Bool
-  was = getD (decisions (before .region)) (a .0) none
+  was = getD (b .decisions) (a .0) none
 
-  looked-at : d ≡ decided (decisions (before .region)) (a .0) v was
-  looked-at = made ∙ decide-fit v (before .region) a (decide-unrefused (before .region) a fit lt)
+  onward : (d : Option Bool) → was ≡ d → forcedOn b (a .0) v d ≡ next b (a .0, v)
+  onward d e = ap (forcedOn b (a .0) v) (sym e) ∙ sym (next-on b (a .0, v) (can .going))
 
-  onward : appliedOf (forcedOn (batchOf before) (a .0) v was) ≡ appliedOf (next (batchOf before) (a .0, v))
-  onward = ap appliedOf (sym (next-on (batchOf before) (a .0, v) going))
+  -- an open atom's bit set in the mask of its value
+  taking-is : was ≡ none → taking v (regionOf (b .decisions)) (a .0) ≡ regionOf (set (b .decisions) (a .0) (some v))
+  taking-is e =
+      ap (λ (d : Decided). d .region)
+      (taken (regionOf (b .decisions)) a _ refl (decide-fits (b .decisions) (can .few) a (can .below)) (eight-words (b .decisions)) v (without v) (without (not v))
+      ∙ decide-known v (b .decisions) (can .few) a (can .below) ∙ ap (decided (b .decisions) (a .0) v) e)
+    where
+      without : (w : Bool) → has (setOf (maskAt w (regionOf (b .decisions)))) (a .0) ≡ false
+      without true = held-has (b .decisions) (can .few) (a .0) ∙ ap isHeld e
+      without false = cut-has (b .decisions) (can .few) (a .0) ∙ ap isCut e
 
-  says : (answer : Answer) → d .answer ≡ answer → decided (decisions (before .region)) (a .0) v was .answer ≡ answer
-  says answer e = sym (ap (λ (o : Decided). o .answer) looked-at) ∙ e
+  module _ (held cut : List ℕ) (t : Tally) (is : tallied n held cut t ≡ appliedOf b) where
+    held-is : has (setOf held) (a .0) ≡ isHeld was
+    held-is = ap (λ (s : Applied). has (setOf (s .region .held)) (a .0)) is ∙ held-has (b .decisions) (can .few) (a .0)
 
-  pub force-taken : d .answer ≡ Taken
-      → record { region = d .region; held = before .held + cond v 1 0; cut = before .cut + cond v 0 1; against = false }
-      ≡ appliedOf (next (batchOf before) (a .0, v))
-  force-taken e =
-      ap (λ (o : Decided). record { region = o .region; held = before .held + cond v 1 0; cut = before .cut + cond v 0 1; against = false }) looked-at
-      ∙ taken-is (batchOf before) (a .0) v was (says Taken e) ∙ onward
+    cut-is : has (setOf cut) (a .0) ≡ isCut was
+    cut-is = ap (λ (s : Applied). has (setOf (s .region .cut)) (a .0)) is ∙ cut-has (b .decisions) (can .few) (a .0)
 
-  pub force-same : d .answer ≡ Same → before ≡ appliedOf (next (batchOf before) (a .0, v))
-  force-same e =
-      is ∙ ap (standing (batchOf before)) going
-      ∙ same-is (batchOf before) (a .0) v was (says Same e) ∙ onward
+    stands : (against : Bool) (w : Bool) → against ≡ not (Bool·beq w v) → was ≡ some w
+        → tallied n held cut (record { held = t .held; cut = t .cut; against = against }) ≡ appliedOf (next b (a .0, v))
+    stands against w says e =
+        ap₂ (λ (s : Applied) (o : Bool). record { region = s .region; held = s .held; cut = s .cut; against = o }) is says
+        ∙ ap appliedOf (onward (some w) e)
 
-  pub force-against : d .answer ≡ Against
-      → record { region = d .region; held = before .held; cut = before .cut; against = true } ≡ appliedOf (next (batchOf before) (a .0, v))
-  force-against e =
-      ap (λ (o : Decided). record { region = o .region; held = before .held; cut = before .cut; against = true }) looked-at
-      ∙ against-is (batchOf before) (a .0) v was (says Against e) ∙ onward
+    pub forcing-held : has (setOf held) (a .0) ≡ true
+        → tallied n held cut (record { held = t .held; cut = t .cut; against = not v }) ≡ appliedOf (next b (a .0, v))
+    forcing-held e = stands (not v) true (against-held v) (is-held was (sym held-is ∙ e))
 
-  pub force-refused : {T : Type 0} (number : ℕ) → d .answer ≡ Refused number → T
-  force-refused number e = not-refused (batchOf before) (a .0) v was number (says (Refused number) e)
+    pub forcing-cut : has (setOf cut) (a .0) ≡ true
+        → tallied n held cut (record { held = t .held; cut = t .cut; against = v }) ≡ appliedOf (next b (a .0, v))
+    forcing-cut e = stands v false (against-cut v) (is-cut was (sym cut-is ∙ e))
+
+    module _ (unheld : has (setOf held) (a .0) ≡ false) (uncut : has (setOf cut) (a .0) ≡ false) where
+      forcing-open : tallied n (cond v (inserted held (a .0)) held) (cond v cut (inserted cut (a .0)))
+          (record { held = t .held + cond v 1 0; cut = t .cut + cond v 0 1; against = false })
+          ≡ appliedOf (next b (a .0, v))
+      forcing-open =
+          let free = is-open was (sym held-is ∙ unheld) (sym cut-is ∙ uncut) in
+          ap (λ (s : Applied). record { region = taking v (s .region) (a .0); held = s .held + cond v 1 0; cut = s .cut + cond v 0 1; against = false }) is
+          ∙ ap (λ (r : Region). record { region = r; held = b .held + cond v 1 0; cut = b .cut + cond v 0 1; against = false }) (taking-is free)
+          ∙ ap appliedOf (onward none free)
+
+      pub forcing-into-held : (held′ : List ℕ) → held′ ≡ inserted held (a .0) → v ≡ true
+          → tallied n held′ cut (record { held = t .held + 1; cut = t .cut; against = false }) ≡ appliedOf (next b (a .0, v))
+      forcing-into-held held′ made e =
+          ap (λ (ws : List ℕ). tallied n ws cut (record { held = t .held + 1; cut = t .cut; against = false })) made
+          ∙ ap (λ (k : ℕ). tallied n (inserted held (a .0)) cut (record { held = t .held + 1; cut = k; against = false })) (sym (add-zero (t .cut)))
+          ∙ ap (λ (w : Bool). tallied n (cond w (inserted held (a .0)) held) (cond w cut (inserted cut (a .0)))
+          (record { held = t .held + cond w 1 0; cut = t .cut + cond w 0 1; against = false })) (sym e)
+          ∙ forcing-open
+
+      pub forcing-into-cut : (cut′ : List ℕ) → cut′ ≡ inserted cut (a .0) → v ≡ false
+          → tallied n held cut′ (record { held = t .held; cut = t .cut + 1; against = false }) ≡ appliedOf (next b (a .0, v))
+      forcing-into-cut cut′ made e =
+          ap (λ (ws : List ℕ). tallied n held ws (record { held = t .held; cut = t .cut + 1; against = false })) made
+          ∙ ap (λ (k : ℕ). tallied n held (inserted cut (a .0)) (record { held = k; cut = t .cut + 1; against = false })) (sym (add-zero (t .held)))
+          ∙ ap (λ (w : Bool). tallied n (cond w (inserted held (a .0)) held) (cond w cut (inserted cut (a .0)))
+          (record { held = t .held + cond w 1 0; cut = t .cut + cond w 0 1; against = false })) (sym e)
+          ∙ forcing-open
 
 -- ---- the list applied up to entry i, none of it against
 
-pub record Upto (p : Decisions) (us vs : List ℕ) (i : ℕ) (state : Applied) : Type 0 where
-  pub is : state ≡ appliedOf (applied (begun p) (forcedIn us vs i))
-  pub going : state .against ≡ false
-  pub held-few : state .held ≤ i
-  pub cut-few : state .cut ≤ i
+pub record Upto (r : Region) (us vs : List ℕ) (i : ℕ) (held cut : List ℕ) (t : Tally) : Type 0 where
+  pub is : tallied (r .atoms) held cut t ≡ appliedOf (applied (begun (decisions r)) (forcedIn us vs i))
+  pub going : t .against ≡ false
+  pub held-few : t .held ≤ i
+  pub cut-few : t .cut ≤ i
 
 pub upto-start : (r : Region) (us vs : List ℕ) → regionOf (decisions r) ≡ r
-    → Upto (decisions r) us vs 0 (record { region = r; held = 0; cut = 0; against = false })
+    → Upto r us vs 0 (r .held) (r .cut) (record { held = 0; cut = 0; against = false })
 unfolding applied zipWith
 upto-start r us vs back = record {
   is = ap (λ (s : Region). record { region = s; held = 0; cut = 0; against = false }) (sym back);
@@ -206,51 +220,43 @@ upto-start r us vs back = record {
   cut-few = omega arith;
 }
 
-module _ (p : Decisions) (us vs : List ℕ) (i : ℕ) (state : Applied) (u : Upto p us vs i state) (few : length p ≤ 512) where
+module _ (r : Region) (us vs : List ℕ) (forced : ℕ) (fit : Applicable r forced us vs) (i : ℕ) (turn : i < forced) (held cut : List ℕ) (t : Tally)
+    (u : Upto r us vs i held cut t) (held′ cut′ : List ℕ) (t′ : Tally)
+    (made : Forcing (getD us i 0) (eqb (getD vs i 0) 1) held cut t held′ cut′ t′) where
   abbrev so-far : Batch
-  so-far = applied (begun p) (forcedIn us vs i)
+  so-far = applied (begun (decisions r)) (forcedIn us vs i)
 
-  long : length (so-far .decisions) ≡ length p
-  long = applied-length (begun p) (forcedIn us vs i)
+  long : length (so-far .decisions) ≡ r .atoms
+  long = applied-length (begun (decisions r)) (forcedIn us vs i) ∙ decisions-length r
 
-  region-is : state .region ≡ regionOf (so-far .decisions)
-  region-is = ap (λ (s : Applied). s .region) (u .is)
+  forcible : Forcible so-far (getD us i 0)
+  forcible = record {
+    few = omega (arith, long, fitting r (fit .fit) .few);
+    below = omega (arith, long, fit .below i turn);
+    going = sym (ap (λ (s : Applied). s .against) (u .is)) ∙ u .going;
+  }
 
-  batch-is : batchOf state ≡ so-far
-  batch-is =
-      ap batchOf (u .is)
-      ∙ ap (λ (q : Decisions). record { decisions = q; held = so-far .held; cut = so-far .cut; against = so-far .against })
-      (decisions-back (so-far .decisions) (omega (arith, long)))
+  onto : tallied (r .atoms) held′ cut′ t′ ≡ appliedOf (next so-far (getD us i 0, eqb (getD vs i 0) 1))
+  onto = made (r .atoms) so-far forcible (u .is)
 
-  pub state-back : state ≡ appliedOf (batchOf state)
-  state-back = u .is ∙ ap appliedOf (sym batch-is)
+  after-is : tallied (r .atoms) held′ cut′ t′ ≡ appliedOf (applied (begun (decisions r)) (forcedIn us vs (i + 1)))
+  after-is =
+      onto
+      ∙ ap appliedOf (sym (applied-next (begun (decisions r)) us vs i (omega (arith, fit .atoms-room)) (omega (arith, fit .values-room))))
+      ∙ ap (λ (n : ℕ). appliedOf (applied (begun (decisions r)) (forcedIn us vs n))) (sym (add-one i))
 
-  pub state-fits : regionUnfit (state .region) ≡ 0
-  state-fits = ap regionUnfit region-is ∙ region-fits (so-far .decisions) (omega (arith, long))
+  pub upto-next : t′ .against ≡ false → Upto r us vs (i + 1) held′ cut′ t′
+  upto-next e =
+      let few = next-few so-far (getD us i 0, eqb (getD vs i 0) 1) in
+      record {
+        is = after-is;
+        going = e;
+        held-few = omega (arith, few .0, ap (λ (s : Applied). s .held) onto, ap (λ (s : Applied). s .held) (u .is), u .held-few);
+        cut-few = omega (arith, few .1, ap (λ (s : Applied). s .cut) onto, ap (λ (s : Applied). s .cut) (u .is), u .cut-few);
+      }
 
-  pub state-atoms : state .region .atoms ≡ length p
-  unfolding regionOf
-  state-atoms = ap (λ (r : Region). r .atoms) region-is ∙ long
-
-  module _ (inside : i < length us) (inside′ : i < length vs) (after : Applied)
-      (is : after ≡ appliedOf (next (batchOf state) (getD us i 0, eqb (getD vs i 0) 1))) where
-    after-is : after ≡ appliedOf (applied (begun p) (forcedIn us vs (i + 1)))
-    after-is =
-        is ∙ ap (λ (b : Batch). appliedOf (next b (getD us i 0, eqb (getD vs i 0) 1))) batch-is
-        ∙ ap appliedOf (sym (applied-next (begun p) us vs i inside inside′))
-        ∙ ap (λ (n : ℕ). appliedOf (applied (begun p) (forcedIn us vs n))) (sym (add-one i))
-
-    pub upto-next : after .against ≡ false → Upto p us vs (i + 1) after
-    upto-next e =
-        let some = next-few (batchOf state) (getD us i 0, eqb (getD vs i 0) 1) in
-        record {
-          is = after-is;
-          going = e;
-          held-few = omega (arith, some .0, ap (λ (s : Applied). s .held) is, u .held-few);
-          cut-few = omega (arith, some .1, ap (λ (s : Applied). s .cut) is, u .cut-few);
-        }
-
-    pub upto-against : (n : ℕ) → i < n → after .against ≡ true → after ≡ appliedOf (applied (begun p) (forcedIn us vs n))
-    upto-against n h e =
-        after-is
-        ∙ ap appliedOf (sym (applied-stays (begun p) us vs (i + 1) n (omega arith) (sym (ap (λ (s : Applied). s .against) after-is) ∙ e)))
+  pub upto-against : t′ .against ≡ true
+      → tallied (r .atoms) held′ cut′ t′ ≡ appliedOf (applied (begun (decisions r)) (forcedIn us vs forced))
+  upto-against e =
+      after-is
+      ∙ ap appliedOf (sym (applied-stays (begun (decisions r)) us vs (i + 1) forced (omega arith) (sym (ap (λ (s : Applied). s .against) after-is) ∙ e)))

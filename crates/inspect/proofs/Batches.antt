@@ -5,10 +5,10 @@ use mathlib.Core.List.{List, [], _∷_}
 use mathlib.Core.Bool.{Bool, true, false, not, _&&_, Bool·beq, true≢false, false≢true, and-eq-true-iff}
 use mathlib.Core.Option.{Option, none, some}
 use lib.ListN.{length, getD, set, length-set}
-use lib.Seq.{getD-set-other}
 use Rattle.rows.specs.Row.{Assignment}
 use Rattle.rows.specs.Decisions.{Decisions, agrees}
 use Rattle.region.specs.Masks.{isHeld, isOpen}
+use Rattle.region.proofs.Standing.{Gains, set-gains}
 use Rattle.inspect.specs.Batch.{Batch, forcedOn, next, applied}
 use Rattle.inspect.proofs.Following.{chosen, Follows}
 
@@ -67,25 +67,25 @@ along x b (f ∷ fs) follows so =
     along x (next b f) fs (follows .1)
     (chosen (Along x) (b .against) b _ (λ e. so) (λ e. along-on x b (f .0) (f .1) (getD (b .decisions) (f .0) none) refl (follows .0) so))
 
--- ---- decisions are only gained, and on the same atoms
+-- ---- decisions are only gained
 
-gained-on : (b : Batch) (c : ℕ) (w : Bool) (d : Option Bool) → getD (b .decisions) c none ≡ d → (a : ℕ) (v : Bool) → getD (b .decisions) a none ≡ some v
-    → getD (forcedOn b c w d .decisions) a none ≡ some v
-gained-on b c w none free a v e =
-    getD-set-other (b .decisions) c a (some w) none (λ same. false≢true (ap isOpen (sym e ∙ ap (λ (i : ℕ). getD (b .decisions) i none) same ∙ free))) ∙ e
-gained-on b c w (some u) free a v e = e
+gained-on : (b : Batch) (c : ℕ) (w : Bool) (d : Option Bool) → getD (b .decisions) c none ≡ d → Gains (b .decisions) (forcedOn b c w d .decisions)
+gained-on b c w none free = set-gains (b .decisions) c w free
+gained-on b c w (some u) free = λ a v e. e
 
-forced-length : (b : Batch) (c : ℕ) (w : Bool) (d : Option Bool) → length (forcedOn b c w d .decisions) ≡ length (b .decisions)
-forced-length b c w none = length-set (b .decisions) c (some w)
-forced-length b c w (some u) = refl
-
-pub gains : (b : Batch) (fs : List (ℕ × Bool)) (a : ℕ) (v : Bool) → getD (b .decisions) a none ≡ some v → getD (applied b fs .decisions) a none ≡ some v
+pub gains : (b : Batch) (fs : List (ℕ × Bool)) → Gains (b .decisions) (applied b fs .decisions)
 unfolding applied
 gains b [] a v e = e
 gains b (f ∷ fs) a v e =
     gains (next b f) fs a v
     (chosen (λ (c : Batch). getD (c .decisions) a none ≡ some v) (b .against) b _ (λ t. e)
     (λ t. gained-on b (f .0) (f .1) (getD (b .decisions) (f .0) none) refl a v e))
+
+-- ---- and on the same atoms
+
+forced-length : (b : Batch) (c : ℕ) (w : Bool) (d : Option Bool) → length (forcedOn b c w d .decisions) ≡ length (b .decisions)
+forced-length b c w none = length-set (b .decisions) c (some w)
+forced-length b c w (some u) = refl
 
 pub applied-length : (b : Batch) (fs : List (ℕ × Bool)) → length (applied b fs .decisions) ≡ length (b .decisions)
 unfolding applied

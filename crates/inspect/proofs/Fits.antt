@@ -1,8 +1,8 @@
 -- What an inspection that no number refuses has been lent, and back: what fits is not refused.
 use Prim.Native.Nat.{ℕ, suc, _+_, _*_, _≤_, _<_, min}
-use mathlib.Core.Path.{_≡_, refl, sym, ap}
+use mathlib.Core.Path.{_≡_, refl, ap}
 use mathlib.Core.List.{List}
-use mathlib.Core.Bool.{Bool, true, false, not, _&&_, _||_, true≢false}
+use mathlib.Core.Bool.{Bool, true, false, not, _&&_, _||_}
 use native.Mathlib.Omega.{arith}
 use borrow.Author.Tests.{ltb-false, leb-false, eqb-true, not-true, not-false, le-ltb, lt-leb, eq-eqb}
 use lib.ListN.{length, getD}
@@ -18,6 +18,7 @@ use Rattle.region.specs.Calls.{strayed, clashes, regionUnfit}
 use Rattle.region.specs.declared.Region.{Region}
 use Rattle.snapshot.specs.Knowledge.{overfullBy, unequal, missing}
 use Rattle.snapshot.specs.declared.Snapshot.{Snapshot}
+use Rattle.snapshot.proofs.Chained.{and-none}
 use Rattle.inspect.specs.Inspect.{Filled, listsShort, misnames, inspectUnfit}
 
 pub record Fits (s : System) (l : Filled) (r : Region) (known : Snapshot) (atoms values : ℕ) : Type 0 where
@@ -62,10 +63,6 @@ module _ (m : ℕ) (basis : List ℕ) where
 
 -- ---- both ways
 
-under : (a b : Bool) → (a && b) ≡ false → a ≡ true → b ≡ false
-under true b e h = e
-under false b e h = absurd (true≢false (sym h))
-
 under-back : (a b : Bool) → (a ≡ true → b ≡ false) → (a && b) ≡ false
 under-back true b h = h refl
 under-back false b h = refl
@@ -104,9 +101,9 @@ module _ (s : System) (l : Filled) (r : Region) (known : Snapshot) (atoms values
         values-room = ltb-false values (s .rank) (lists .1);
         region = simp (others .0, strange .1, clash .0);
         named = names-each (s .rows) (l .basis) (s .rank) (name .0);
-        below-rank = λ sound. under _ _ (over .0) (ap not sound);
+        below-rank = λ sound. and-none _ _ (over .0) (ap not sound);
         same-atoms = eqb-true (r .atoms) (s .atoms) (not-false _ (count .0));
-        known-atoms = λ set. eqb-true (known .atoms) (r .atoms) (not-false _ (under _ _ (count .1) set));
+        known-atoms = λ set. eqb-true (known .atoms) (r .atoms) (not-false _ (and-none _ _ (count .1) set));
         ancestor = old .0;
       }
 

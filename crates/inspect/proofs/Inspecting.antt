@@ -1,7 +1,7 @@
 -- `inspect` as a whole: refused with nothing touched, or what the touched rows come to.
 use Prim.Native.Nat.{ℕ, zero, suc, _≤_, _<_}
 use mathlib.Core.Path.{_≡_, refl, sym, ap, ap₂, _∙_}
-use mathlib.Core.List.{List, [], _∷_, _++_, map, zipWith}
+use mathlib.Core.List.{List, [], _∷_, map, zipWith}
 use mathlib.Core.Bool.{Bool, true, false, cond, xor, _&&_, Bool·beq}
 use native.Mathlib.Omega.{arith}
 use borrow.Author.Tests.{eq-eqb, ne-eqb}

@@ -22,20 +22,14 @@ use Rattle.region.proofs.Masked.{decisions-length, decisions-back}
 use Rattle.snapshot.specs.Knowledge.{published}
 use Rattle.snapshot.specs.declared.Snapshot.{Snapshot}
 use Rattle.inspect.specs.Batch.{Batch, begun, applied}
-use Rattle.inspect.specs.Inspect.{Filled, toldOf, Outcome, outcome, inspectUnfit, answerOf, found, inspected, inspectOf}
+use Rattle.inspect.specs.Inspect.{isRefuted, Filled, toldOf, Outcome, outcome, inspectUnfit, answerOf, found, inspected, inspectOf}
 use Rattle.inspect.specs.Promises.{basisIn, filledBy, ForcedFollow, RefutedNone, PreparedRefuted, RegionGains}
 use Rattle.inspect.specs.declared.Inspected.{Inspected}
 use Rattle.inspect.specs.declared.Step.{Step}
-use Rattle.inspect.specs.declared.Step.the-variants.{Unchanged, Changed, Refuted, Refused}
+use Rattle.inspect.specs.declared.Step.the-variants.{Unchanged, Changed, Refused}
 use Rattle.inspect.proofs.Fits.{unfit-fits}
 use Rattle.inspect.proofs.Following.{chosen, Followed, followed}
 use Rattle.inspect.proofs.Batches.{Along, along, gains, applied-length}
-
-abbrev isRefuted : Step → Bool
-isRefuted Unchanged = false
-isRefuted Changed = false
-isRefuted Refuted = true
-isRefuted (Refused number) = false
 
 not-against : (held cut : ℕ) (against : Bool) → against ≡ false → isRefuted (answerOf held cut against) ≡ false
 not-against held cut true e = absurd (true≢false e)
@@ -118,7 +112,7 @@ pub refuted-none : RefutedNone
 refuted-none s l r known atoms values x sound answer = go (meetsAll (basisIn s l) x) (agrees (decisions r) x) refl refl
   where
     go : (m a : Bool) → meetsAll (basisIn s l) x ≡ m → agrees (decisions r) x ≡ a → (m && a) ≡ false
-    go true true met agree = absurd (true≢false (sym (ap isRefuted answer) ∙ stands s l r known atoms values x met agree sound))
+    go true true met agree = absurd (true≢false (sym answer ∙ stands s l r known atoms values x met agree sound))
     go true false met agree = refl
     go false a met agree = refl
 
@@ -140,7 +134,7 @@ module _ (n m : ℕ) (l : Lent) (number : prepareOf n m l .0 .number ≡ 0) wher
       ∙ prepare-keeps n m l x number .0 sound
 
   refuted-both : (r : Region) (known : Snapshot) (atoms values : List ℕ) (x : Assignment)
-      → inspectOf system memory r known atoms values .result .answer ≡ Refuted
+      → isRefuted (inspectOf system memory r known atoms values .result .answer) ≡ true
       → (b : Bool) → system .refuted ≡ b → (meetsAll (handedIn n m l) x && agrees (decisions r) x) ≡ false
   refuted-both r known atoms values x answer true e = ap (λ (b : Bool). b && agrees (decisions r) x) (prepare-keeps n m l x number .1 e)
   refuted-both r known atoms values x answer false e =

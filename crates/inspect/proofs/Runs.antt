@@ -21,7 +21,7 @@ use Rattle.parity.specs.declared.System.{System}
 use Rattle.parity.specs.declared.Prepared.{Prepared}
 use Rattle.parity.proofs.Refit.{prepare-fits}
 use Rattle.region.specs.Masks.{decisions, regionOf, isHeld, isCut}
-use Rattle.region.specs.Calls.{answerNumber, decided, undecidedOf, holdOf, cutOf, decideOf}
+use Rattle.region.specs.Calls.{answerNumber, regionUnfit, decided, undecidedOf, holdOf, cutOf, decideOf}
 use Rattle.region.specs.Promises.{deciding}
 use Rattle.region.specs.declared.Region.{Region}
 use Rattle.region.specs.declared.Decided.{Decided}
@@ -39,7 +39,7 @@ use Rattle.inspect.specs.declared.Inspected.{Inspected}
 use Rattle.inspect.specs.declared.Step.{Step}
 use Rattle.inspect.specs.declared.Step.the-variants.{Unchanged, Changed, Refused}
 use Rattle.inspect.specs.Run.{Call, hold, cut, inspect, State, begins, step, after}
-use Rattle.inspect.specs.Promises.{filledBy, KnowledgeAncestor, NeverRefused}
+use Rattle.inspect.specs.Promises.{filledBy, RegionsFit, KnowledgeAncestor, NeverRefused}
 use Rattle.inspect.proofs.Fits.{fits-unfit}
 use Rattle.inspect.proofs.Following.{chosen}
 use Rattle.inspect.proofs.Batches.{gains}
@@ -175,6 +175,18 @@ module _ (n : ℕ) (cs : List Call) where
 
   reached-few : length (reached .now) ≤ 512
   reached-few = omega (arith, reached .long, starts n .few)
+
+known-count : (p : Decisions) (known : Snapshot) → Ancestor p known → known .initialized ≡ true → known .atoms ≡ regionOf p .atoms
+unfolding regionOf
+known-count p known unknown e = absurd (false≢true e)
+known-count p known (earlier q long gains) e = long
+
+pub regions-fit : RegionsFit
+regions-fit n cs =
+    let then = reached n cs in (
+      ap regionUnfit (then .is) ∙ region-fits (then .now) (reached-few n cs),
+      λ e. known-count (then .now) (after (begins n) cs .known) (then .knows) e ∙ sym (ap (λ (r : Region). r .atoms) (then .is)),
+    )
 
 pub knowledge-ancestor : KnowledgeAncestor
 knowledge-ancestor n cs ds =

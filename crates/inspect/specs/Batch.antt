@@ -1,7 +1,7 @@
 -- The forced list applied in order to the decisions.
 use Prim.Native.Nat.{ℕ, _+_}
 use mathlib.Core.List.{List, [], _∷_}
-use mathlib.Core.Bool.{Bool, true, false, cond, not, Bool·beq}
+use mathlib.Core.Bool.{Bool, false, cond, not, Bool·beq}
 use mathlib.Core.Option.{Option, none, some}
 use lib.ListN.{getD, set}
 use Rattle.rows.specs.Decisions.{Decisions}

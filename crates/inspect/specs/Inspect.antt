@@ -23,12 +23,18 @@ use Rattle.inspect.specs.declared.Inspected.{Inspected}
 use Rattle.inspect.specs.declared.Step.{Step}
 use Rattle.inspect.specs.declared.Step.the-variants.{Unchanged, Changed, Refuted, Refused}
 
--- Document 01's number of each answer: a refusal's own, and 0 of an inspection that was made.
+-- Document 01's number of each answer, 0 but of a refusal, and whether it is Refuted.
+abbrev pub meaning : Step → ℕ × Bool
+meaning Unchanged = (0, false)
+meaning Changed = (0, false)
+meaning Refuted = (0, true)
+meaning (Refused number) = (number, false)
+
 abbrev pub stepNumber : Step → ℕ
-stepNumber Unchanged = 0
-stepNumber Changed = 0
-stepNumber Refuted = 0
-stepNumber (Refused number) = number
+stepNumber a = meaning a .0
+
+abbrev pub isRefuted : Step → Bool
+isRefuted a = meaning a .1
 
 -- The memory that preparation filled and that is lent to be read.
 pub record Filled : Type 0 where

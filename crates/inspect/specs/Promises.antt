@@ -13,13 +13,12 @@ use Rattle.parity.specs.Prepare.{Lent, prepareOf}
 use Rattle.parity.specs.Promises.{handedIn}
 use Rattle.parity.specs.declared.System.{System}
 use Rattle.region.specs.Masks.{decisions}
-use Rattle.region.specs.Calls.{answerNumber, holdOf, cutOf}
+use Rattle.region.specs.Calls.{answerNumber, regionUnfit, holdOf, cutOf}
 use Rattle.region.specs.declared.Region.{Region}
 use Rattle.snapshot.specs.Knowledge.{missing}
 use Rattle.snapshot.specs.declared.Snapshot.{Snapshot}
-use Rattle.inspect.specs.Inspect.{Filled, filled, stepNumber, inspectOf}
-use Rattle.inspect.specs.Run.{Call, State, begins, after}
-use Rattle.inspect.specs.declared.Step.the-variants.{Refuted}
+use Rattle.inspect.specs.Inspect.{Filled, filled, stepNumber, isRefuted, inspectOf}
+use Rattle.inspect.specs.Run.{Call, begins, after}
 
 -- The basis rows of a system.
 abbrev pub basisIn : System → Filled → List Row
@@ -34,7 +33,7 @@ ForcedFollow = (s : System) (l : Filled) (r : Region) (known : Snapshot) (atoms 
 -- Where a system that is not flagged is found refuted, nothing meets the basis rows and agrees with the region.
 abbrev pub RefutedNone : Type 0
 RefutedNone = (s : System) (l : Filled) (r : Region) (known : Snapshot) (atoms values : List ℕ) (x : Assignment)
-    → s .refuted ≡ false → inspectOf s l r known atoms values .result .answer ≡ Refuted
+    → s .refuted ≡ false → isRefuted (inspectOf s l r known atoms values .result .answer) ≡ true
     → (meetsAll (basisIn s l) x && agrees (decisions r) x) ≡ false
 
 -- What preparation left, to be lent to be read.
@@ -45,7 +44,7 @@ filledBy l = filled (l .rows) (l .constants) (l .basis) (l .index)
 abbrev pub PreparedRefuted : Type 0
 PreparedRefuted = (n m : ℕ) (l : Lent) (r : Region) (known : Snapshot) (atoms values : List ℕ) (x : Assignment)
     → let p = prepareOf n m l in
-    p .0 .number ≡ 0 → inspectOf (p .0 .system) (filledBy (p .1)) r known atoms values .result .answer ≡ Refuted
+    p .0 .number ≡ 0 → isRefuted (inspectOf (p .0 .system) (filledBy (p .1)) r known atoms values .result .answer) ≡ true
     → (meetsAll (handedIn n m l) x && agrees (decisions r) x) ≡ false
 
 -- The region only gains decisions.
@@ -53,7 +52,13 @@ abbrev pub RegionGains : Type 0
 RegionGains = (s : System) (l : Filled) (r : Region) (known : Snapshot) (atoms values : List ℕ) (a : ℕ) (v : Bool)
     → getD (decisions r) a none ≡ some v → getD (decisions (inspectOf s l r known atoms values .result .region)) a none ≡ some v
 
--- Knowledge is an ancestor of the region at hand and of every later one, whatever the calls are lent.
+-- After any list of calls, whatever they are lent, the region is fit, and knowledge that is initialised has its atom count.
+abbrev pub RegionsFit : Type 0
+RegionsFit = (n : ℕ) (cs : List Call)
+    → let st = after (begins n) cs in
+    (regionUnfit (st .region) ≡ 0) × (st .known .initialized ≡ true → st .known .atoms ≡ st .region .atoms)
+
+-- And knowledge is an ancestor of the region at hand and of every later one.
 abbrev pub KnowledgeAncestor : Type 0
 KnowledgeAncestor = (n : ℕ) (cs ds : List Call) → missing (after (begins n) (cs ++ ds) .region) (after (begins n) cs .known) ≡ false
 

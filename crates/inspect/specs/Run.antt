@@ -1,5 +1,5 @@
--- Lists of calls over one region and one knowledge: "hold, cut and the probe take the region, and inspect the region and the knowledge, as
--- the last call returned or left them".
+-- Lists of calls over one region and one knowledge, as demand 3 has them: "Hold, cut and the probe take the region, and inspect the region
+-- and the knowledge, as the last call returned or left them."
 use Prim.Native.Nat.{ℕ}
 use mathlib.Core.List.{List, [], _∷_}
 use Rattle.rows.specs.declared.Atom.{Atom}

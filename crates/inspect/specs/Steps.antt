@@ -8,15 +8,16 @@ use lib.ListN.{length, getD, set, take}
 use lib.Dec.{eqb}
 use Rattle.words.specs.Set.{setOf}
 use Rattle.rows.specs.Flat.{widthOf, row}
-use Rattle.region.specs.Masks.{decisions, regionOf}
+use Rattle.region.specs.Masks.{regionOf}
 use Rattle.region.specs.Calls.{regionUnfit}
 use Rattle.region.specs.declared.Region.{Region}
 use Rattle.inspect.specs.declared.Reading.{Reading}
 use Rattle.inspect.specs.declared.Reading.the-variants.{Quiet, Forces, Wrong}
 use Rattle.inspect.specs.declared.Applied.{Applied}
+use Rattle.inspect.specs.declared.apply.Tally.{Tally}
 use Rattle.inspect.specs.declared.Collected.{Collected}
 use Rattle.inspect.specs.Consequences.{Consequences}
-use Rattle.inspect.specs.Batch.{Batch}
+use Rattle.inspect.specs.Batch.{Batch, next}
 use Rattle.inspect.specs.Inspect.{atomsFrom, valuesFrom}
 
 -- Row s lies within the lent memory and is fit.
@@ -73,9 +74,26 @@ pub record Applicable (r : Region) (forced : ℕ) (atoms values : List ℕ) : Ty
   pub values-room : forced ≤ length values
   pub below : (i : ℕ) → i < forced → getD atoms i 0 < r .atoms
 
--- A batch in words, and back.
+-- A batch in words.
 abbrev pub appliedOf : Batch → Applied
 appliedOf b = record { region = regionOf (b .decisions); held = b .held; cut = b .cut; against = b .against }
 
-abbrev pub batchOf : Applied → Batch
-batchOf s = record { decisions = decisions (s .region); held = s .held; cut = s .cut; against = s .against }
+-- The same by the masks of n atoms and the counts.
+abbrev pub tallied : ℕ → List ℕ → List ℕ → Tally → Applied
+tallied n held cut t = record {
+  region = record { atoms = n; held = held; cut = cut };
+  held = t .held;
+  cut = t .cut;
+  against = t .against;
+}
+
+-- An atom can be forced on a batch: it is one of its up to 512 atoms, and none before was against.
+pub record Forcible (b : Batch) (a : ℕ) : Type 0 where
+  pub few : length (b .decisions) ≤ 512
+  pub below : a < length (b .decisions)
+  pub going : b .against ≡ false
+
+-- What forcing atom a to v makes of masks and counts: they stand for the next batch, if they stood for one.
+abbrev pub Forcing : ℕ → Bool → (held cut : List ℕ) → Tally → (held′ cut′ : List ℕ) → Tally → Type 0
+Forcing a v held cut t held′ cut′ t′ =
+    (n : ℕ) (b : Batch) → Forcible b a → tallied n held cut t ≡ appliedOf b → tallied n held′ cut′ t′ ≡ appliedOf (next b (a, v))

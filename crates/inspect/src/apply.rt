@@ -1,67 +1,53 @@
 // The forced list applied in order: "an open atom is decided and counted as held or cut; an atom decided otherwise, Refuted with earlier
 // ones standing".
 use super::Applied;
-use region::Answer;
-use region::Decided;
 use region::Region;
 use rows::Atom;
 ghost use mathlib.Core.Path.{_≡_};
-ghost use mathlib.Core.Bool.{true, false, cond};
-ghost use Prim.Native.Nat.{_+_, _<_};
+ghost use Prim.Native.Nat.{_<_};
 ghost use Rattle.region.specs.Masks.{decisions};
-ghost use Rattle.region.specs.Calls.{regionUnfit, decideOf};
-ghost use Rattle.inspect.specs.Batch.{begun, next, applied};
-ghost use Rattle.inspect.specs.Steps.{Applicable, forcedIn, appliedOf, batchOf};
+ghost use Rattle.inspect.specs.Batch.{begun, applied};
+ghost use Rattle.inspect.specs.Steps.{Applicable, forcedIn, appliedOf, Forcing};
 
-// Holds or cuts an atom.
-fn decide(region: Region, atom: Atom, value: bool) -> Decided
-    ensures { λ r. ⌜ r ≡ decideOf value region atom ⌝ }
-{
-    if value {
-        return region.hold(atom);
-    }
-    region.cut(atom)
+// How many atoms were decided as held and as cut, and whether one was decided otherwise.
+struct Tally {
+    held: usize,
+    cut: usize,
+    against: bool,
 }
 
-// Counts one more atom as held or as cut.
-fn counted(region: Region, held: usize, cut: usize, value: bool) -> Applied
-    requires { ⌜ (held < 512) × (cut < 512) ⌝ }
-    ensures { λ r. ⌜ r ≡ record { region = region; held = held + cond value 1 0; cut = cut + cond value 0 1; against = false } ⌝ }
+// One forced atom decided in the masks.
+fn force(held: &mut [u64; 8], cut: &mut [u64; 8], tally: Tally, atom: Atom, value: bool) -> Tally
+    requires { ⌜ (tally .held < 512) × (tally .cut < 512) ⌝ }
+    ensures { λ r. ⌜ Forcing (atom .0) value (now (held .entry)) (now (cut .entry)) tally (now (held .exit)) (now (cut .exit)) r ⌝ }
 {
+    if words::contains(held, atom.0) {
+        return Tally {
+            held: tally.held,
+            cut: tally.cut,
+            against: !value,
+        };
+    }
+    if words::contains(cut, atom.0) {
+        return Tally {
+            held: tally.held,
+            cut: tally.cut,
+            against: value,
+        };
+    }
     if value {
-        return Applied {
-            region: region,
-            held: held + 1,
-            cut: cut,
+        words::insert(held, atom.0);
+        return Tally {
+            held: tally.held + 1,
+            cut: tally.cut,
             against: false,
         };
     }
-    Applied {
-        region: region,
-        held: held,
-        cut: cut + 1,
+    words::insert(cut, atom.0);
+    Tally {
+        held: tally.held,
+        cut: tally.cut + 1,
         against: false,
-    }
-}
-
-// One forced atom decided.
-fn force(before: Applied, atom: Atom, value: bool) -> Applied
-    requires { ⌜ (before ≡ appliedOf (batchOf before)) × (before .against ≡ false) × (regionUnfit (before .region) ≡ 0) × (atom .0 < before .region .atoms) × (before .held < 512) × (before .cut < 512) ⌝ }
-    ensures { λ r. ⌜ r ≡ appliedOf (next (batchOf before) (atom .0, value)) ⌝ }
-{
-    let decided = decide(before.region, atom, value);
-    let answer = decided.answer;
-    let region = decided.region;
-    match answer {
-        Answer::Taken => counted(region, before.held, before.cut, value),
-        Answer::Same => before,
-        Answer::Against => Applied {
-            region: region,
-            held: before.held,
-            cut: before.cut,
-            against: true,
-        },
-        Answer::Refused(_) => before,
     }
 }
 
@@ -70,19 +56,29 @@ pub fn apply(region: Region, forced: usize, atoms: &[usize], values: &[u8]) -> A
     requires { ⌜ Applicable region forced (now atoms) (now values) ⌝ }
     ensures { λ r. ⌜ r ≡ appliedOf (applied (begun (decisions region)) (forcedIn (now (atoms .entry)) (now (values .entry)) forced)) ⌝ }
 {
-    let mut state = Applied {
-        region: region,
+    let mut held = region.held;
+    let mut cut = region.cut;
+    let mut tally = Tally {
         held: 0,
         cut: 0,
         against: false,
     };
     let mut i = 0;
     while i < forced {
-        state = force(state, Atom(atoms[i]), values[i] == 1);
-        if state.against {
-            return state;
+        tally = force(&mut held, &mut cut, tally, Atom(atoms[i]), values[i] == 1);
+        if tally.against {
+            break;
         }
         i += 1;
     }
-    state
+    Applied {
+        region: Region {
+            atoms: region.atoms,
+            held: held,
+            cut: cut,
+        },
+        held: tally.held,
+        cut: tally.cut,
+        against: tally.against,
+    }
 }

@@ -1,5 +1,5 @@
 // The theorems of `inspect`, each held by the gate as the contract of a function with an empty body; specs/Promises.antt has the statements.
-ghost use Rattle.inspect.specs.Promises.{ForcedFollow, RefutedNone, PreparedRefuted, RegionGains, KnowledgeAncestor, NeverRefused};
+ghost use Rattle.inspect.specs.Promises.{ForcedFollow, RefutedNone, PreparedRefuted, RegionGains, RegionsFit, KnowledgeAncestor, NeverRefused};
 
 // "one open atom, it and its value join the forced list": what meets the basis rows and agrees with the region has these values
 pub fn forced_follow()
@@ -19,6 +19,11 @@ pub fn prepared_refuted()
 // the region only gains decisions
 pub fn region_gains()
     ensures { λ _. ⌜ RegionGains ⌝ }
+{}
+
+// after any list of calls the region is fit, and the knowledge has its atom count
+pub fn regions_fit()
+    ensures { λ _. ⌜ RegionsFit ⌝ }
 {}
 
 // knowledge is an ancestor of the region at hand and of every later one

@@ -1,5 +1,5 @@
 -- A column of the index that preparation wrote: its words are those of the definition, and its bits tell which basis rows have the atom.
-use Prim.Native.Nat.{ℕ, zero, suc, _+_, _*_, _^_, _≤_, _<_, min}
+use Prim.Native.Nat.{ℕ, zero, suc, _*_, _^_, _≤_, _<_, min}
 use mathlib.Core.Path.{_≡_, refl, sym, ap, _∙_}
 use mathlib.Core.List.{List, [], _∷_, _++_, map, append-assoc}
 use mathlib.Core.Bool.{Bool, true, false, cond, _&&_, true≢false}
@@ -15,8 +15,8 @@ use Rattle.words.specs.Set.{setOf, has}
 use Rattle.rows.specs.Row.{Row, hasAtom}
 use Rattle.rows.specs.Flat.{widthOf, rowAt, row, maskOf, unpack}
 use Rattle.rows.specs.declared.Atom.{Atom}
-use Rattle.rows.proofs.Rowwise.{has-below}
-use Rattle.rows.proofs.Digits.{atoms-has, atoms-mask, mask-lt, packed-unpack}
+use Rattle.rows.proofs.Rowwise.{has-above, mask-has}
+use Rattle.rows.proofs.Digits.{mask-lt, packed-unpack}
 use Rattle.index.specs.Index.{columnWidth, columnOf, indexOf}
 use Rattle.index.specs.Column.{overRank, columnUnfit, wantedColumn}
 use Rattle.index.proofs.Overrank.{over-none}
@@ -52,9 +52,6 @@ index-row w rs (suc n) a h rest =
     go false e older = older (lt-of-le-ne (omega arith) (eqb-false a n e))
 
 -- ---- the bits of one column
-
-mask-has : (c : List Bool) (j : ℕ) → j < length c → has (maskOf c) j ≡ getD c j false
-mask-has c j h = sym (atoms-has (length c) (maskOf c) j h) ∙ ap (λ (l : List Bool). getD l j false) (atoms-mask c)
 
 map-at : {A B : Type 0} (f : A → B) (l : List A) (j : ℕ) (d : B) (e : A) → j < length l → getD (map f l) j d ≡ f (getD l j e)
 map-at f [] j d e h = let z : ⊥ = omega arith in absurd z
@@ -98,19 +95,9 @@ module _ (n rank : ℕ) (rs : List Row) (ranked : length rs ≡ rank) (rest : Li
     pub column-bit : (j : ℕ) → has (setOf (wantedColumn written n rank a)) j ≡ (ltb j rank && getD (columnOf rs (a .0)) j false)
     column-bit j = ap (λ (l : List ℕ). has (setOf l) j) column-is ∙ go (ltb j rank) refl
       where
-        x : ℕ
-        x = setOf (row (columnWidth rank) written (a .0))
-
         go : (b : Bool) → ltb j rank ≡ b → has (setOf (row (columnWidth rank) written (a .0))) j ≡ (b && getD (columnOf rs (a .0)) j false)
-        go true e =
-            let lt = ltb-true j rank e in
-            let inside : j < length (columnOf rs (a .0)) = omega (arith, length-map rs (λ (r : Row). hasAtom r (a .0))) in
-            ap (λ (k : ℕ). has k j) (column-set (a .0) h) ∙ mask-has (columnOf rs (a .0)) j inside
-        go false e = none (has x j) refl
-          where
-            none : (t : Bool) → has x j ≡ t → t ≡ false
-            none true f = let z : ⊥ = omega (arith, ltb-false j rank e, has-below rank x j (column-below (a .0) h) f) in absurd z
-            none false f = refl
+        go true e = ap (λ (k : ℕ). has k j) (column-set (a .0) h) ∙ mask-has (columnOf rs (a .0)) j
+        go false e = has-above rank _ j (column-below (a .0) h) (ltb-false j rank e)
 
 -- two tests that differ at most past the rank
 below : {j : ℕ} {x y : Bool} (rank : ℕ) → (j < rank → x ≡ y) → (ltb j rank && x) ≡ (ltb j rank && y)

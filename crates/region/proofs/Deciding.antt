@@ -3,7 +3,7 @@
 use Prim.Native.Nat.{ℕ, zero, suc, _/_, _%_, _^_, _<_}
 use mathlib.Core.Path.{_≡_, refl, sym, ap, ap₂, _∙_}
 use mathlib.Core.List.{List, map}
-use mathlib.Core.Bool.{Bool, true, false, cond, not, _&&_, _||_, Bool·beq, and-comm, true≢false}
+use mathlib.Core.Bool.{Bool, true, false, cond, not, _&&_, _||_, Bool·beq, and-comm, or-false, true≢false}
 use mathlib.Core.Option.{Option, none, some}
 use native.Mathlib.Nat.{mod-lt, zero-lt-suc}
 use native.Mathlib.Omega.{arith}
@@ -80,11 +80,7 @@ module _ (ws : List ℕ) (a : ℕ) (room : a / 64 < length ws) where
   more-same = insert-adds ws a .0 room a ∙ or-right (has (setOf ws) a) (eqb a a) (eq-eqb a a refl)
 
   more-other : (i : ℕ) → eqb i a ≡ false → has (setOf (inserted ws a)) i ≡ has (setOf ws) i
-  more-other i e = insert-adds ws a .0 room i ∙ or-false (has (setOf ws) i) (eqb i a) e
-    where
-      or-false : (b c : Bool) → c ≡ false → (b || c) ≡ b
-      or-false true c e = refl
-      or-false false c e = e
+  more-other i e = insert-adds ws a .0 room i ∙ ap (λ (t : Bool). has (setOf ws) i || t) e ∙ or-false (has (setOf ws) i)
 
   more-apart : (us : List ℕ) → ((i : ℕ) → (has (setOf ws) i && has (setOf us) i) ≡ false) → has (setOf us) a ≡ false
       → (i : ℕ) → (has (setOf (inserted ws a)) i && has (setOf us) i) ≡ false

@@ -6,8 +6,8 @@ use mathlib.Core.Bool.{Bool, true, false, cond, _&&_}
 use mathlib.Core.Option.{Option, none, some}
 use native.Mathlib.Nat.{lt-of-lt-of-le}
 use native.Mathlib.Omega.{arith}
-use borrow.Author.Tests.{ltb-true, ltb-false, leb-false, eqb-true, not-false, le-ltb, lt-leb, eq-eqb}
-use lib.ListN.{length, getD, length-map, List·getD-map, List·getD-eq-default}
+use borrow.Author.Tests.{ltb-false, leb-false, eqb-true, not-false, le-ltb, lt-leb, eq-eqb}
+use lib.ListN.{length, getD, length-map, List·getD-map}
 use lib.Seq.{ext-getD}
 use lib.Bits.{bitAnd}
 use lib.Dec.{leb, ltb}
@@ -18,7 +18,7 @@ use Rattle.rows.specs.Decisions.{Decisions}
 use Rattle.rows.specs.Flat.{atomsOf, maskOf, unpack}
 use Rattle.rows.specs.declared.Atom.{Atom}
 use Rattle.rows.proofs.Digits.{atoms-length, atoms-has, atoms-mask, mask-lt, packed-unpack, atoms-fix-words}
-use Rattle.rows.proofs.Rowwise.{has-below}
+use Rattle.rows.proofs.Rowwise.{zip-length, mask-has}
 use Rattle.fit.specs.Refusal.{refusal, orRefused}
 use Rattle.fit.proofs.Among.{or-none}
 use Rattle.fit.proofs.Fitting.{passed}
@@ -27,12 +27,6 @@ use Rattle.region.specs.Calls.{strayed, clashes, regionChecks, regionUnf
 use Rattle.region.specs.declared.Region.{Region}
 
 -- ---- the decisions of two lists
-
-zip-length : (l r : List Bool) → length l ≡ length r → length (zipWith decision l r) ≡ length l
-unfolding zipWith
-zip-length [] r h = refl
-zip-length (x ∷ l) [] h = let z : ⊥ = omega arith in absurd z
-zip-length (x ∷ l) (y ∷ r) h = ap suc (zip-length l r (omega arith))
 
 zip-at : (l r : List Bool) → length l ≡ length r → (a : ℕ) → getD (zipWith decision l r) a none ≡ decision (getD l a false) (getD r a false)
 unfolding zipWith
@@ -47,7 +41,7 @@ same-lengths n x y = atoms-length n x ∙ sym (atoms-length n y)
 
 pub decisions-length : (r : Region) → length (decisions r) ≡ r .atoms
 unfolding decisionsOf
-decisions-length r = zip-length _ _ (same-lengths (r .atoms) (setOf (r .held)) (setOf (r .cut))) ∙ atoms-length (r .atoms) (setOf (r .held))
+decisions-length r = zip-length decision _ _ (same-lengths (r .atoms) (setOf (r .held)) (setOf (r .cut))) ∙ atoms-length (r .atoms) (setOf (r .held))
 
 pub decision-at : (r : Region) (a : ℕ) → a < r .atoms → getD (decisions r) a none ≡ decision (has (setOf (r .held)) a) (has (setOf (r .cut)) a)
 unfolding decisionsOf
@@ -66,19 +60,24 @@ cut-of true false e = refl
 cut-of false true e = refl
 cut-of false false e = refl
 
+-- what an entry that is there falls back on does not matter
+getD-any : (l : List Bool) (a : ℕ) (d e : Bool) → a < length l → getD l a d ≡ getD l a e
+getD-any [] a d e h = let z : ⊥ = omega arith in absurd z
+getD-any (b ∷ l) zero d e h = refl
+getD-any (b ∷ l) (suc a) d e h = getD-any l a d e (omega arith)
+
 -- a list told of each decision of a region is a list of atoms, if each place is
-module _ (r : Region) (f : Option Bool → Bool) (x : ℕ)
-    (each : (a : ℕ) → a < r .atoms → f (decision (has (setOf (r .held)) a) (has (setOf (r .cut)) a)) ≡ has x a) (start : f none ≡ false) where
-  told : map f (decisions r) ≡ atomsOf (r .atoms) x
-  told =
-      let long : length (map f (decisions r)) ≡ r .atoms = length-map (decisions r) f ∙ decisions-length r in
-      ext-getD false _ _ (long ∙ sym (atoms-length (r .atoms) x)) (λ a h.
-      let lt : a < r .atoms = omega arith in
-      ap (getD (map f (decisions r)) a) (sym start) ∙ List·getD-map f (decisions r) a none ∙ ap f (decision-at r a lt) ∙ each a lt
-      ∙ sym (atoms-has (r .atoms) x a lt))
+pub map-atoms : (r : Region) (f : Option Bool → Bool) (x : ℕ)
+    → ((a : ℕ) → a < r .atoms → f (decision (has (setOf (r .held)) a) (has (setOf (r .cut)) a)) ≡ has x a) → map f (decisions r) ≡ atomsOf (r .atoms) x
+map-atoms r f x each =
+    let long : length (map f (decisions r)) ≡ r .atoms = length-map (decisions r) f ∙ decisions-length r in
+    ext-getD (f none) _ _ (long ∙ sym (atoms-length (r .atoms) x)) (λ a h.
+    let lt : a < r .atoms = omega arith in
+    List·getD-map f (decisions r) a none ∙ ap f (decision-at r a lt) ∙ each a lt ∙ sym (atoms-has (r .atoms) x a lt)
+    ∙ getD-any (atomsOf (r .atoms) x) a false (f none) (omega (arith, atoms-length (r .atoms) x)))
 
 pub map-held : (r : Region) → map isHeld (decisions r) ≡ atomsOf (r .atoms) (setOf (r .held))
-map-held r = told r isHeld (setOf (r .held)) (λ a h. held-of (has (setOf (r .held)) a) (has (setOf (r .cut)) a)) refl
+map-held r = map-atoms r isHeld (setOf (r .held)) (λ a h. held-of (has (setOf (r .held)) a) (has (setOf (r .cut)) a))
 
 -- ---- what a region that is not refused has
 
@@ -110,7 +109,7 @@ fit-region r f =
     simp (le-ltb 512 (r .atoms) (f .few), lt-leb _ _ (f .held-below), lt-leb _ _ (f .cut-below), eq-eqb _ _ none)
 
 pub map-cut : (r : Region) → Fitting r → map isCut (decisions r) ≡ atomsOf (r .atoms) (setOf (r .cut))
-map-cut r f = told r isCut (setOf (r .cut)) (λ a h. cut-of (has (setOf (r .held)) a) (has (setOf (r .cut)) a) (f .apart a)) refl
+map-cut r f = map-atoms r isCut (setOf (r .cut)) (λ a h. cut-of (has (setOf (r .held)) a) (has (setOf (r .cut)) a) (f .apart a))
 
 -- the checks that a call has after a region's own
 checks : (x y z : Bool) (k : ℕ) → cond x 10 (cond y 11 (cond z 12 k)) ≡ orRefused (cond x 10 (cond y 11 (cond z 12 0))) k (λ number. number)
@@ -128,22 +127,16 @@ pub decide-is : (r : Region) (a : Atom) → decideUnfit r a ≡ orRefused (regio
 unfolding decideUnfit
 decide-is r a = checks-more r ((18, leb (r .atoms) (a .0)) ∷ [])
 
+decide-unrefused : (r : Region) (a : Atom) → regionUnfit r ≡ 0 → a .0 < r .atoms → decideUnfit r a ≡ 0
+decide-unrefused r a fit lt =
+    decide-is r a ∙ ap (λ (k : ℕ). orRefused k (cond (leb (r .atoms) (a .0)) 18 0) (λ number. number)) fit
+    ∙ ap (λ (t : Bool). cond t 18 0) (lt-leb (r .atoms) (a .0) lt)
+
 -- ---- from decisions to words and back
 
 -- a list of up to 512 atoms has eight words
 pub mask-set : (l : List Bool) → length l ≤ 512 → setOf (unpack 64 8 (maskOf l)) ≡ maskOf l
 mask-set l h = packed-unpack 64 8 (maskOf l) (lt-of-lt-of-le (mask-lt l) (pow-mono h))
-
-pub mask-has : (l : List Bool) (a : ℕ) → has (maskOf l) a ≡ getD l a false
-mask-has l a = go (ltb a (length l)) refl
-  where
-    outside : (t : Bool) → has (maskOf l) a ≡ t → length l ≤ a → t ≡ false
-    outside true e h = let z : ⊥ = omega (arith, has-below (length l) (maskOf l) a (mask-lt l) e) in absurd z
-    outside false e h = refl
-
-    go : (b : Bool) → ltb a (length l) ≡ b → has (maskOf l) a ≡ getD l a false
-    go true e = sym (atoms-has (length l) (maskOf l) a (ltb-true a (length l) e)) ∙ ap (λ (m : List Bool). getD m a false) (atoms-mask l)
-    go false e = let past = ltb-false a (length l) e in outside (has (maskOf l) a) refl past ∙ sym (List·getD-eq-default l false past)
 
 decision-back : (p : Decisions) → zipWith decision (map isHeld p) (map isCut p) ≡ p
 unfolding zipWith
@@ -162,7 +155,7 @@ module _ (p : Decisions) (few : length p ≤ 512) where
     fewer : length (map f p) ≤ 512
     fewer = omega (arith, length-map p f)
 
-    pub atoms-map : atomsOf (length p) (setOf (unpack 64 8 (maskOf (map f p)))) ≡ map f p
+    atoms-map : atomsOf (length p) (setOf (unpack 64 8 (maskOf (map f p)))) ≡ map f p
     atoms-map =
         ap₂ atomsOf (sym (length-map p f)) (mask-set (map f p) fewer) ∙ atoms-mask (map f p)
 
@@ -172,14 +165,6 @@ module _ (p : Decisions) (few : length p ≤ 512) where
     map-has : f none ≡ false → (a : ℕ) → has (setOf (unpack 64 8 (maskOf (map f p)))) a ≡ f (getD p a none)
     map-has start a =
         ap (λ (x : ℕ). has x a) (mask-set (map f p) fewer) ∙ mask-has (map f p) a ∙ ap (getD (map f p) a) (sym start) ∙ List·getD-map f p a none
-
-  pub held-atoms : atomsOf (length p) (setOf (regionOf p .held)) ≡ map isHeld p
-  unfolding regionOf
-  held-atoms = atoms-map isHeld
-
-  pub cut-atoms : atomsOf (length p) (setOf (regionOf p .cut)) ≡ map isCut p
-  unfolding regionOf
-  cut-atoms = atoms-map isCut
 
   pub held-has : (a : ℕ) → has (setOf (regionOf p .held)) a ≡ isHeld (getD p a none)
   unfolding regionOf
@@ -205,12 +190,6 @@ decisions-back p few = ap₂ (zipWith decision) (atoms-map p few isHeld) (atoms-
 pub region-fits : (p : Decisions) → length p ≤ 512 → regionUnfit (regionOf p) ≡ 0
 region-fits p few = fit-region (regionOf p) (fits-of p few)
 
-pub decide-fits : (p : Decisions) → length p ≤ 512 → (a : Atom) → a .0 < length p → decideUnfit (regionOf p) a ≡ 0
-unfolding regionOf
-decide-fits p few a h =
-    decide-is (regionOf p) a ∙ ap (λ (k : ℕ). orRefused k (cond (leb (length p) (a .0)) 18 0) (λ number. number)) (region-fits p few)
-    ∙ ap (λ (t : Bool). cond t 18 0) (lt-leb (length p) (a .0) h)
-
 -- a decision that is not refused, and one on a region that is known by what is decided
 answered : {A : Type 0} (k : ℕ) (answer : A) (refused : ℕ → A) → k ≡ 0 → orRefused k answer refused ≡ answer
 answered zero answer refused e = refl
@@ -219,8 +198,13 @@ answered (suc k) answer refused e = let z : ⊥ = omega arith in absurd z
 pub decide-fit : (v : Bool) (r : Region) (a : Atom) → decideUnfit r a ≡ 0 → decideOf v r a ≡ decided (decisions r) (a .0) v (getD (decisions r) (a .0) none)
 decide-fit v r a e = answered (decideUnfit r a) _ _ e
 
+pub decide-fits : (p : Decisions) → length p ≤ 512 → (a : Atom) → a .0 < length p → decideUnfit (regionOf p) a ≡ 0
+unfolding regionOf
+decide-fits p few a h = decide-unrefused (regionOf p) a (region-fits p few) h
+
 pub decide-known : (v : Bool) (p : Decisions) → length p ≤ 512 → (a : Atom) → a .0 < length p
     → decideOf v (regionOf p) a ≡ decided p (a .0) v (getD p (a .0) none)
+unfolding regionOf
 decide-known v p few a h =
     decide-fit v (regionOf p) a (decide-fits p few a h) ∙ ap (λ (q : Decisions). decided q (a .0) v (getD q (a .0) none)) (decisions-back p few)
 

@@ -79,11 +79,6 @@ module _ (x from : ℕ) where
     pub next-le : nextOf x from ≤ 512
     next-le = by-next (λ a. a ≤ 512) (λ e. omega arith) (λ h. omega (arith, low-below h))
 
-    pub next-none : 512 ≤ nextOf x from → (i : ℕ) → from ≤ i → has x i ≡ false
-    next-none =
-        by-next (λ a. 512 ≤ a → (i : ℕ) → from ≤ i → has x i ≡ false) (λ e l. none-from e)
-        (λ h l. let z : ⊥ = omega (arith, low-below h) in absurd z)
-
     next-last : eqb (x / 2 ^ from) 0 ≡ eqb (nextOf x from) 512
     next-last =
         by-next (λ a. eqb (x / 2 ^ from) 0 ≡ eqb a 512) (λ e. eq-eqb _ 0 e)

@@ -18,19 +18,19 @@ use Rattle.region.specs.declared.NewRegion.{NewRegion}
 use Rattle.region.specs.declared.Answer.{Answer}
 use Rattle.region.specs.declared.Answer.the-variants.{Taken, Same, Against, Refused}
 
--- Document 01's number of each answer: a refusal's own, and 0 of a decision that was looked at.
-abbrev pub answerNumber : Answer → ℕ
-answerNumber Taken = 0
-answerNumber Same = 0
-answerNumber Against = 0
-answerNumber (Refused number) = number
+-- Document 01's number of each answer, 0 but of a refusal, and whether the decision is accepted: "a decision answered taken or same is
+-- accepted, one answered against, or refused, is not".
+abbrev pub meaning : Answer → ℕ × Bool
+meaning Taken = (0, true)
+meaning Same = (0, true)
+meaning Against = (0, false)
+meaning (Refused number) = (number, false)
 
--- "a decision answered taken or same is accepted, one answered against, or refused, is not"
+abbrev pub answerNumber : Answer → ℕ
+answerNumber a = meaning a .0
+
 abbrev pub accepted : Answer → Bool
-accepted Taken = true
-accepted Same = true
-accepted Against = false
-accepted (Refused number) = false
+accepted a = meaning a .1
 
 -- "11: a bit set at or above n in a .. region". (A set with an atom from n on is a number from 2^n on.)
 abbrev pub strayed : Region → Bool

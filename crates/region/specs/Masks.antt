@@ -1,6 +1,6 @@
 -- A region's words, and the decisions that they stand for: "Region. n, held and cut masks."
 use Prim.Native.Nat.{ℕ, _+_, _/_, _^_}
-use mathlib.Core.List.{List, map, zipWith}
+use mathlib.Core.List.{map, zipWith}
 use mathlib.Core.Bool.{Bool, true, false, cond}
 use mathlib.Core.Option.{Option, none, some}
 use lib.ListN.{length}

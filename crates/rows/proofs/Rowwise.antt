@@ -17,7 +17,7 @@ use Rattle.words.specs.Calls.{narrow}
 use Rattle.words.proofs.Bitwise.{by-xor, two}
 use Rattle.words.proofs.Packed.{packed-zip}
 use Rattle.words.proofs.Meaning.{low-lowest, has-none}
-use Rattle.rows.specs.Flat.{row, rowAt, atomsOf}
+use Rattle.rows.specs.Flat.{row, rowAt, atomsOf, maskOf}
 use Rattle.rows.specs.Calls.{addedWords, addedConstants, lowestOf, within}
 use Rattle.rows.specs.declared.Source.{Source}
 use Rattle.rows.specs.declared.Atom.{Atom}
@@ -25,7 +25,7 @@ use Rattle.rows.specs.declared.Lowest.the-variants.{At, Empty, Outside}
 use Rattle.rows.specs.Promises.{AddSums, OverlapShared, RowHas, LowestIsLowest}
 use Rattle.rows.proofs.Adding.{can-add, earlier}
 use Rattle.rows.proofs.Places.{row-length}
-use Rattle.rows.proofs.Digits.{atoms-xor, atoms-overlap, atoms-has, atoms-length}
+use Rattle.rows.proofs.Digits.{atoms-xor, atoms-overlap, atoms-has, atoms-length, atoms-mask, mask-lt}
 
 pub overlap-shared : OverlapShared
 unfolding rowAt
@@ -33,7 +33,7 @@ overlap-shared n w ws cs r x h = atoms-overlap n (setOf (row w ws r)) x h
 
 -- ---- the words of a row after another was added to row t
 
-pub zip-length : (op : ℕ → ℕ → ℕ) (l r : List ℕ) → length l ≡ length r → length (zipWith op l r) ≡ length l
+pub zip-length : {A B C : Type 0} (op : A → B → C) (l : List A) (r : List B) → length l ≡ length r → length (zipWith op l r) ≡ length l
 unfolding zipWith
 zip-length op [] r h = refl
 zip-length op (x ∷ l) [] h = let z : ⊥ = omega arith in absurd z
@@ -134,14 +134,23 @@ lowest-cases true false x = (
 lowest-cases false e x = ((λ a p. (cc, cc)), (λ p. cc))
 
 -- an atom of a set below 2 ^ n is below n
+pub has-above : (n x a : ℕ) → x < 2 ^ n → n ≤ a → has x a ≡ false
+has-above n x a h l = ap (λ (k : ℕ). eqb (k % 2) 1) (div-eq-of-lt (lt-of-lt-of-le h (pow-mono l)))
+
 pub has-below : (n x a : ℕ) → x < 2 ^ n → has x a ≡ true → a < n
 has-below n x a h e = go (ltb a n) refl
   where
     go : (b : Bool) → ltb a n ≡ b → a < n
     go true l = ltb-true a n l
-    go false l =
-        let none : has x a ≡ false = ap (λ (k : ℕ). eqb (k % 2) 1) (div-eq-of-lt (lt-of-lt-of-le h (pow-mono (ltb-false a n l)))) in
-        absurd (false≢true (sym none ∙ e))
+    go false l = absurd (false≢true (sym (has-above n x a h (ltb-false a n l)) ∙ e))
+
+-- the set of a list has just the atoms of the list
+pub mask-has : (l : List Bool) (a : ℕ) → has (maskOf l) a ≡ getD l a false
+mask-has l a = go (ltb a (length l)) refl
+  where
+    go : (b : Bool) → ltb a (length l) ≡ b → has (maskOf l) a ≡ getD l a false
+    go true e = sym (atoms-has (length l) (maskOf l) a (ltb-true a (length l) e)) ∙ ap (λ (m : List Bool). getD m a false) (atoms-mask l)
+    go false e = let past = ltb-false a (length l) e in has-above (length l) (maskOf l) a (mask-lt l) past ∙ sym (List·getD-eq-default l false past)
 
 -- an atom that the set lacks is not in its list, wherever that ends
 pub atoms-none : (n x b : ℕ) → has x b ≡ false → getD (atomsOf n x) b false ≡ false

@@ -2,8 +2,8 @@
 use Prim.Native.Nat.{ℕ}
 use mathlib.Core.Path.{_≡_}
 use mathlib.Core.List.{List, [], _∷_, map}
-use mathlib.Core.Bool.{Bool, true, false}
-use mathlib.Core.Option.{none, some}
+use mathlib.Core.Bool.{Bool, true, false, cond}
+use mathlib.Core.Option.{Option, none, some}
 use lib.ListN.{length, replicate}
 use Rattle.rows.specs.Row.{Row}
 use Rattle.rows.specs.Decisions.{Decisions}
@@ -14,7 +14,7 @@ use Rattle.parity.specs.declared.Prepared.{Prepared}
 use Rattle.region.specs.Masks.{decisions}
 use Rattle.snapshot.specs.Promises.{oldDecisions}
 use Rattle.inspect.specs.Inspect.{inspectOf}
-use Rattle.inspect.specs.Run.{Call, hold, begins, after}
+use Rattle.inspect.specs.Run.{hold, begins, after}
 use Rattle.inspect.specs.Promises.{filledBy}
 use Rattle.inspect.specs.declared.Step.{Step}
 use Rattle.inspect.specs.declared.Step.the-variants.{Refuted}
@@ -27,7 +27,7 @@ pub data Question : Type 0 where
 pub data Answer : Type 0 where
   equations : List (ℕ × Bool) → Bool → Answer  -- coefficients and constant of each, and whether the table is exact
   prepared : Bool → ℕ → ℕ → Answer  -- whether the system is refuted, its rank, and the additions
-  inspected : Step → ℕ → ℕ → Decisions → Decisions → Answer  -- the answer, held, cut, the decisions then, and those published
+  inspected : Step → ℕ → ℕ → ℕ → Decisions → Option Decisions → Answer  -- the answer, held, cut, forced, the decisions then and those known
 
 abbrev pub examples : List (Question × Answer)
 examples =
@@ -42,7 +42,7 @@ examples =
     ∷ (system 0 [], prepared false 0 0)  -- "No rows, n=0: sound"
     ∷ (system 3 ((3, 1) ∷ (6, 1) ∷ (5, 1) ∷ []), prepared true 2 2)  -- "{0,1}=1, {1,2}=1, {0,2}=1: refuted, 2 additions."
     -- "{0,2}=0, {1,2}=1, 0 and 1 held: inspect Refuted, 2 held, published with 2 open."
-    ∷ (inspection 3 ((5, 0) ∷ (6, 1) ∷ []) (0 ∷ 1 ∷ []), inspected Refuted 1 0 (some true ∷ some true ∷ some true ∷ []) (some true ∷ some true ∷ none ∷ []))
+    ∷ (inspection 3 ((5, 0) ∷ (6, 1) ∷ []) (0 ∷ 1 ∷ []), inspected Refuted 1 0 2 (some true ∷ some true ∷ some true ∷ []) (some (some true ∷ some true ∷ none ∷ [])))
     ∷ []
 
 -- The rows prepared, with room for eight entries in each list.
@@ -63,7 +63,7 @@ answered (inspection n rows held) =
     let st = after (begins n) (map (λ (a : ℕ). hold (record { 0 = a })) held) in
     let room : List ℕ = replicate 8 0 in
     let o = inspectOf (p .0 .system) (filledBy (p .1)) (st .region) (st .known) room room .result in
-    inspected (o .answer) (o .held) (o .cut) (decisions (o .region)) (oldDecisions (o .known))
+    inspected (o .answer) (o .held) (o .cut) (o .forced) (decisions (o .region)) (cond (o .known .initialized) (some (oldDecisions (o .known))) none)
 
 -- Every example has the answer of the definitions.
 abbrev pub Settled : Type 0

@@ -27,19 +27,19 @@ pub passes : {x rest : ℕ} (b : Bool) (k : ℕ) → b ≡ false → x ≡ rest 
 passes true k e is = absurd (true≢false e)
 passes false k e is = is
 
--- ---- 10
-
-pub record Limits (s : System) (r : Region) (known : Snapshot) : Type 0 where
-  pub atoms : s .atoms ≤ 512
-  pub rows : s .rows ≤ 512
-  pub region : r .atoms ≤ 512
-  pub old : known .initialized ≡ true → known .atoms ≤ 512
-
-and-none : (a b : Bool) → (a && b) ≡ false → a ≡ true → b ≡ false
+-- a check that is asked where another holds
+pub and-none : (a b : Bool) → (a && b) ≡ false → a ≡ true → b ≡ false
 and-none true b e h = e
 and-none false b e h = absurd (false≢true h)
 
-pub limits : (s : System) (r : Region) (known : Snapshot) → overfullBy s r known ≡ false → Limits s r known
+-- ---- 10
+
+pub record Limits (s : System) (r : Region) : Type 0 where
+  pub atoms : s .atoms ≤ 512
+  pub rows : s .rows ≤ 512
+  pub region : r .atoms ≤ 512
+
+pub limits : (s : System) (r : Region) (known : Snapshot) → overfullBy s r known ≡ false → Limits s r
 limits s r known e =
     let both = or-none (overfull (s .atoms) (s .rows)) _ e in
     let system = or-none (ltb 512 (s .atoms)) (ltb 512 (s .rows)) (both .0) in
@@ -48,7 +48,6 @@ limits s r known e =
       atoms = ltb-false 512 (s .atoms) (system .0);
       rows = ltb-false 512 (s .rows) (system .1);
       region = ltb-false 512 (r .atoms) (others .0);
-      old = λ h. ltb-false 512 (known .atoms) (and-none (known .initialized) (ltb 512 (known .atoms)) (others .1) h);
     }
 
 -- ---- 11 and 12, as `Region::number` tells them

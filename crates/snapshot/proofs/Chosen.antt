@@ -1,29 +1,31 @@
 -- The touched rows as a set of ordinals: eight words of a list of rows, and back, and the words that `select` makes.
-use Prim.Native.Nat.{ℕ, zero, suc, _+_, _-_, _*_, _/_, _%_, _^_, _≤_, _<_, min}
+use Prim.Native.Nat.{ℕ, zero, suc, _+_, _*_, _/_, _%_, _^_, _≤_, _<_, min}
 use mathlib.Core.Path.{_≡_, refl, sym, ap, ap₂, _∙_}
 use mathlib.Core.List.{List, _∷_}
 use mathlib.Core.Bool.{Bool, true, false, not, xor, _||_}
-use native.Mathlib.Nat.{mod-lt, div-eq-of-lt, lt-of-lt-of-le, pow-suc, suc-mul, zero-lt-suc}
+use native.Mathlib.Nat.{mod-lt, suc-mul}
 use native.Mathlib.Omega.{arith}
 use borrow.Author.Tests.{ltb-true, ltb-false}
-use lib.ListN.{length, getD, replicate, getD-replicate, List·getD-eq-default}
+use lib.ListN.{length, getD, replicate, List·getD-eq-default}
 use lib.Bits.{bitOr, bitXor}
 use lib.Dec.{eqb, ltb}
-use lib.Pow.{pow-pos, pow-mono, shr-shr, ones-split, high, ones-lt}
+use lib.Pow.{pow-pos, shr-shr}
 use Rattle.words.specs.Set.{packed, setOf, has}
 use Rattle.words.specs.Calls.{merged}
 use Rattle.words.proofs.Bitwise.{by-or, by-xor}
 use Rattle.words.proofs.Packed.{digit-low}
 use Rattle.words.proofs.Member.{has-past}
-use Rattle.words.proofs.Meaning.{atom-is-bit, same-atoms, set-merged, has-or, has-xor, has-none}
+use Rattle.words.proofs.Meaning.{same-atoms, set-merged, has-or, has-xor, has-none}
 use Rattle.rows.specs.Flat.{atomsOf, maskOf, unpack}
 use Rattle.rows.proofs.Digits.{atoms-mask}
+use Rattle.rows.proofs.Rowwise.{has-above, mask-has}
 use Rattle.index.specs.Index.{columnWidth}
 use Rattle.region.specs.declared.Region.{Region}
-use Rattle.region.proofs.Masked.{mask-set, mask-has}
+use Rattle.region.proofs.Masked.{mask-set}
 use Rattle.snapshot.specs.declared.Snapshot.{Snapshot}
 use Rattle.snapshot.specs.Steps.{Adds}
 use Rattle.snapshot.specs.Touch.{newly, marks, listed, touchedOf, ordinalsOf}
+use Rattle.snapshot.proofs.Full.{full, full-has}
 use Rattle.snapshot.proofs.Marking.{marks-same, marks-on}
 
 -- ---- a list of rows and its words
@@ -55,9 +57,6 @@ unfolding ordinalsOf
 chosen-atoms rank rows long few = ap₂ atomsOf (sym long) (mask-set rows (omega arith)) ∙ atoms-mask rows
 
 -- ---- words with the same atoms are the same words
-
-has-above : (n x a : ℕ) → x < 2 ^ n → n ≤ a → has x a ≡ false
-has-above n x a h l = ap (λ (k : ℕ). eqb (k % 2) 1) (div-eq-of-lt (lt-of-lt-of-le h (pow-mono l)))
 
 has-mod : (n x a : ℕ) → a < n → has (x % 2 ^ n) a ≡ has x a
 has-mod n x a h = ap (λ (d : ℕ). eqb d 1) (digit-low x n a h)
@@ -97,26 +96,12 @@ module _ (rank x : ℕ) (test : ℕ → Bool) (told : (a : ℕ) → a < 512 → 
 
 -- ---- every row
 
-has-ones : (k b : ℕ) → b < k → has (2 ^ k - 1) b ≡ true
-has-ones k b h =
-    let e : k ≡ suc (k - b - 1) + b = omega arith in
-    let odd : (2 ^ suc (k - b - 1) - 1) % 2 ≡ 1 = omega (arith, pow-suc 2 (k - b - 1), pow-pos (k - b - 1)) in
-    ap (λ (n : ℕ). has (2 ^ n - 1) b) e
-    ∙ ap (λ (n : ℕ). eqb (n / 2 ^ b % 2) 1) (ones-split (suc (k - b - 1)) b)
-    ∙ ap (λ (n : ℕ). eqb (n % 2) 1) (high (2 ^ suc (k - b - 1) - 1) b (ones-lt b))
-    ∙ ap (λ (d : ℕ). eqb d 1) odd
-
 pub all-chosen : (rank : ℕ) (index : List ℕ) (r : Region) (known : Snapshot) → known .initialized ≡ false
-    → unpack 64 8 (setOf (replicate 8 (2 ^ 64 - 1)) % 2 ^ rank) ≡ ordinalsOf (touchedOf rank index r known) .words
+    → unpack 64 8 (setOf full % 2 ^ rank) ≡ ordinalsOf (touchedOf rank index r known) .words
 unfolding touchedOf ordinalsOf
 all-chosen rank index r known e =
-    kept-listed rank (setOf all) _ (λ a h.
-    let word : a / 64 < 8 = omega arith in
-    atom-is-bit all a ∙ ap (λ (w : ℕ). has w (a % 64)) (getD-replicate 8 (a / 64) (2 ^ 64 - 1) 0 word) ∙ has-ones 64 (a % 64) (mod-lt a (zero-lt-suc 63))
-    ∙ sym (ap (λ (t : Bool). not t || marks (newly r known) (columnWidth rank) index a (r .atoms)) e))
-  where
-    all : List ℕ
-    all = replicate 8 (2 ^ 64 - 1)
+    kept-listed rank (setOf full) _ (λ a h.
+    full-has a h ∙ sym (ap (λ (t : Bool). not t || marks (newly r known) (columnWidth rank) index a (r .atoms)) e))
 
 -- ---- the rows that new decisions touch
 

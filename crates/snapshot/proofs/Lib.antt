@@ -3,5 +3,6 @@ pub mod Keeping
 pub mod Joining
 pub mod Chained
 pub mod Marking
+pub mod Full
 pub mod Chosen
 pub mod Touches

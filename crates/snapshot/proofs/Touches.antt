@@ -32,17 +32,13 @@ use Rattle.region.specs.Calls.{strayed, clashes, regionUnfit}
 use Rattle.region.specs.declared.Region.{Region}
 use Rattle.region.proofs.Masked.{Fitting, fitting, decisions-length, decision-at}
 use Rattle.snapshot.specs.Knowledge.{overfullBy, unequal, missing}
-use Rattle.snapshot.specs.Touch.{newly, marks, listed, touchedOf, touchedUnfit}
+use Rattle.snapshot.specs.Touch.{newly, marks, touchedUnfit}
 use Rattle.snapshot.specs.Promises.{oldDecisions, NewlyDecided, Touches, TouchedExact}
 use Rattle.snapshot.specs.declared.Snapshot.{Snapshot}
+use Rattle.snapshot.proofs.Chained.{and-none}
+use Rattle.snapshot.proofs.Chosen.{touched-at}
 
--- ---- the values of a test, and the rows that columns mark
-
-pub listed-at : (k : ℕ) (test : ℕ → Bool) (j : ℕ) (d : Bool) → j < k → getD (listed k test) j d ≡ test j
-unfolding listed
-listed-at zero test j d h = let z : ⊥ = omega arith in absurd z
-listed-at (suc k) test zero d h = refl
-listed-at (suc k) test (suc j) d h = listed-at k (λ i. test (suc i)) j d (omega arith)
+-- ---- the rows that columns mark
 
 module _ (atoms : ℕ → Bool) (w : ℕ) (index : List ℕ) (j : ℕ) where
   -- whether atom a is one of them and its column has the row
@@ -60,14 +56,14 @@ module _ (atoms : ℕ → Bool) (w : ℕ) (index : List ℕ) (j : ℕ) where
   pub marks-found : (n a : ℕ) → a < n → atoms a ≡ true → has (setOf (partOf w index a)) j ≡ true → marks atoms w index j n ≡ true
   marks-found n a h e f = any-found (marks atoms w index j) marksAt marks-start marks-more n a h (ap₂ _&&_ e f)
 
-  abbrev pub Marked : ℕ → Type 0
-  Marked n = (a : ℕ) × (a < n) × (atoms a ≡ true) × (has (setOf (partOf w index a)) j ≡ true)
+  abbrev pub SomeMark : ℕ → Type 0
+  SomeMark n = (a : ℕ) × (a < n) × (atoms a ≡ true) × (has (setOf (partOf w index a)) j ≡ true)
 
-  pub marks-some : (n : ℕ) → marks atoms w index j n ≡ true → Marked n
+  pub marks-some : (n : ℕ) → marks atoms w index j n ≡ true → SomeMark n
   marks-some zero e = absurd (false≢true (sym marks-start ∙ e))
   marks-some (suc n) e = go (marks atoms w index j n) (marks-some n) (sym (marks-more n) ∙ e)
     where
-      go : (t : Bool) → (t ≡ true → Marked n) → (t || marksAt n) ≡ true → Marked (suc n)
+      go : (t : Bool) → (t ≡ true → SomeMark n) → (t || marksAt n) ≡ true → SomeMark (suc n)
       go true earlier f = let found = earlier refl in (found .0, omega (arith, found .1), found .2, found .3)
       go false earlier f = let parts = and-eq-true-iff (atoms n) (has (setOf (partOf w index n)) j) .0 f in (n, omega arith, parts .0, parts .1)
 
@@ -84,10 +80,6 @@ region-taken : (r : Region) → ltb 512 (r .atoms) ≡ false → strayed r ≡ f
 unfolding regionUnfit
 region-taken r few stray clash = simp (few, stray, clash)
 
-if-known : (i t : Bool) → i ≡ true → (i && not t) ≡ false → t ≡ true
-if-known true t e f = not-false t f
-if-known false t e f = absurd (false≢true e)
-
 pub follows : (s : System) (index : List ℕ) (r : Region) (known : Snapshot) → known .initialized ≡ true → touchedUnfit s index r known ≡ 0 → Follows s r known
 unfolding touchedUnfit
 follows s index r known init e =
@@ -103,11 +95,11 @@ follows s index r known init e =
     let equal = or-none (not (eqb (r .atoms) (s .atoms))) _ (counts .0) in
     let held = subset (setOf (known .held)) (setOf (r .held)) in
     let cut = subset (setOf (known .cut)) (setOf (r .cut)) in
-    let both = and-eq-true-iff held cut .0 (if-known (known .initialized) (held && cut) init kept) in
+    let both = and-eq-true-iff held cut .0 (not-false (held && cut) (and-none _ _ kept init)) in
     record {
       fits = fitting r (region-taken r few (stray .0) (clash .0));
       atoms = eqb-true (r .atoms) (s .atoms) (not-false _ (equal .0));
-      same = eqb-true (known .atoms) (r .atoms) (if-known (known .initialized) _ init (equal .1));
+      same = eqb-true (known .atoms) (r .atoms) (not-false _ (and-none _ _ (equal .1) init));
       held = subset-holds (setOf (known .held)) (setOf (r .held)) .0 (both .0);
       cut = subset-holds (setOf (known .cut)) (setOf (r .cut)) .0 (both .1);
     }
@@ -128,8 +120,8 @@ since false false false true apart held cut = absurd (false≢true (cut refl))
 since false false false false apart held cut = refl
 
 module _ (s : System) (r : Region) (known : Snapshot) (f : Follows s r known) where
-  newly-is : (a : ℕ) → a < r .atoms → newly r known a ≡ (not (isOpen (getD (decisions r) a none)) && isOpen (getD (oldDecisions known) a none))
-  newly-is a h =
+  newly-since : (a : ℕ) → a < r .atoms → newly r known a ≡ (not (isOpen (getD (decisions r) a none)) && isOpen (getD (oldDecisions known) a none))
+  newly-since a h =
       let old : Region = record { atoms = known .atoms; held = known .held; cut = known .cut } in
       since (has (setOf (r .held)) a) (has (setOf (r .cut)) a) (has (setOf (known .held)) a) (has (setOf (known .cut)) a)
       (f .fits .apart a) (f .held a) (f .cut a)
@@ -139,8 +131,8 @@ module _ (s : System) (r : Region) (known : Snapshot) (f : Follows s r known) wh
   newly-decided a h =
       let now = isOpen (getD (decisions r) a none) in
       let both = and-eq-true-iff (not now) (isOpen (getD (oldDecisions known) a none)) in (
-        (λ e. let parts = both .0 (sym (newly-is a h) ∙ e) in (not-true now (parts .0), parts .1)),
-        (λ d. newly-is a h ∙ both .1 (ap not (d .0), d .1)),
+        (λ e. let parts = both .0 (sym (newly-since a h) ∙ e) in (not-true now (parts .0), parts .1)),
+        (λ d. newly-since a h ∙ both .1 (ap not (d .0), d .1)),
       )
 
 -- what is decided lies below the atom count
@@ -161,13 +153,6 @@ pub column-part : (index : List ℕ) (n rank : ℕ) (a : Atom) → columnUnfit i
 unfolding wantedColumn
 column-part index n rank a e =
     wanted-part index n rank a e ∙ sym (ap (λ (k : ℕ). cond (eqb k 0) (row (columnWidth rank) index (a .0)) []) e)
-
--- with initialised knowledge a row is touched where the columns mark it
-pub touched-at : (rank : ℕ) (index : List ℕ) (r : Region) (known : Snapshot) → known .initialized ≡ true → (j : ℕ) → j < rank
-    → getD (touchedOf rank index r known) j false ≡ marks (newly r known) (columnWidth rank) index j (r .atoms)
-unfolding touchedOf
-touched-at rank index r known init j h =
-    listed-at rank _ j false h ∙ ap (λ (i : Bool). not i || marks (newly r known) (columnWidth rank) index j (r .atoms)) init
 
 module _ (n m : ℕ) (l : Lent) (number : prepareOf n m l .0 .number ≡ 0) (sound : prepareOf n m l .0 .system .refuted ≡ false) where
   abbrev rank : ℕ
@@ -190,7 +175,7 @@ module _ (n m : ℕ) (l : Lent) (number : prepareOf n m l .0 .number ≡ 0) (sou
       let s = prepareOf n m l .0 .system in
       let w = columnWidth rank in
       let count : r .atoms ≡ n = f .atoms ∙ prepare-fits n m l number .atoms in
-      let at = touched-at rank index r known init j lt in (
+      let at = touched-at rank index r known j lt ∙ ap (λ (i : Bool). not i || marks (newly r known) w index j (r .atoms)) init in (
         (λ e.
             let found = marks-some (newly r known) w index j (r .atoms) (sym at ∙ e) in
             let a = found .0 in

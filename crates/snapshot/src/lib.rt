@@ -211,7 +211,7 @@ pub fn select(rank: usize, index: &[u64], region: Region, known: Snapshot) -> Or
 }
 
 // Whether the index of a system that is not refuted has a bit from the rank on, within the columns of its atoms: false where it has not
-// that many columns.
+// that many columns, or atoms or rank are above 512.
 pub fn past_rank(system: System, index: &[u64]) -> bool
     ensures { λ r. ⌜ r ≡ (not (system .refuted) && eqb (columnUnfit (now (index .entry)) (system .atoms) (system .rank) (record { 0 = 0 })) 14) ⌝ }
 {

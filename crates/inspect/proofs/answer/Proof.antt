@@ -1,12 +1,8 @@
 -- `inspect::answer` meets its contract: none decided is a sum of 0.
-use Prim.Native.Nat.{ℕ, _+_}
-use mathlib.Core.Path.{_≡_, sym, ap, _∙_}
-use mathlib.Core.Bool.{Bool, cond}
+use Prim.Native.Nat.{_+_}
+use mathlib.Core.Path.{_≡_}
 use native.Mathlib.Omega.{arith}
 use borrow.Author.Tests.{eq-eqb, ne-eqb}
-use lib.Dec.{eqb}
-use Rattle.inspect.specs.declared.Step.{Step}
-use Rattle.inspect.specs.Inspect.{answerOf}
 use Rattle.inspect.proofs.answer.Statement.{statement}
 use Rattle.inspect.proofs.answer.Tie as tie
 

@@ -1,15 +1,13 @@
 -- `inspect` meets its contract: refused with nothing touched, or what the touched rows come to.
-use Prim.Native.Nat.{ℕ}
-use mathlib.Core.Path.{_≡_, sym, ap, _∙_, subst}
+use mathlib.Core.Path.{sym, ap, _∙_, subst}
 use mathlib.Core.List.{List, map}
-use mathlib.Core.Bool.{Bool, false, not}
+use mathlib.Core.Bool.{Bool}
 use native.Mathlib.Omega.{arith}
 use borrow.Author.Tests.{not-true, not-false}
 use borrow.Author.Needs.{needs}
-use lib.ListN.{length, take}
+use lib.ListN.{length}
 use Rattle.words.specs.Set.{setOf}
 use Rattle.rows.specs.Flat.{atomsOf}
-use Rattle.parity.specs.declared.System.{System}
 use Rattle.snapshot.specs.Touch.{touchedOf}
 use Rattle.snapshot.specs.declared.Ordinals.{Ordinals}
 use Rattle.snapshot.proofs.Chosen.{touched-length, chosen-atoms}

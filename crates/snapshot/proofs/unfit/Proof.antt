@@ -18,7 +18,7 @@ use Rattle.snapshot.proofs.unfit.Statement.{statement}
 use Rattle.snapshot.proofs.unfit.Tie as tie
 
 -- what each check that did not refuse tells
-bounds : (c : tie.Else1) → let a = c .before .before .before .args in Limits (a .system) (a .region) (a .known)
+bounds : (c : tie.Else1) → let a = c .before .before .before .args in Limits (a .system) (a .region)
 bounds c =
     let a = c .before .before .before .args in
     limits (a .system) (a .region) (a .known) (sym (c .before .overfull .ensures) ∙ c .if1 .left)

@@ -2,7 +2,7 @@
 use Prim.Native.Nat.{ℕ, _<_, _≤_, _*_, min}
 use mathlib.Core.Path.{_≡_, sym, ap, _∙_}
 use mathlib.Core.Bool.{false}
-use native.Mathlib.Nat.{mul-le-mul-right, mul-le-mul-left}
+use native.Mathlib.Nat.{mul-le-mul-right}
 use native.Mathlib.Omega.{arith}
 use lib.Dec.{ltb}
 use borrow.Author.Tests.{lt-ltb, le-ltb}
@@ -23,16 +23,11 @@ returns c =
 column-width-requires : tie.Need-column-width-requires
 column-width-requires c κs = search needs
 
--- no more than 512 columns of 8 words
-few : (n w : ℕ) → n ≤ 512 → w ≤ 8 → n * w ≤ 4096
-few n w h l = omega (arith, mul-le-mul-right w h, mul-le-mul-left 512 l)
-
 mul-if2 : tie.Need-mul-if2
 mul-if2 c =
     let wide = c .before .column-width in
     let start = c .before .before .before .before in
-    let narrow : wide .result ≤ 8 = omega (arith, wide .ensures, start .pre) in
-    omega (arith, few (start .args .system .atoms) (wide .result) (start .pre .0) narrow)
+    omega (arith, wide .ensures, start .pre .1, mul-le-mul-right (wide .result) (start .pre .0))
 
 -- the tests that the basis and the index pass
 enough : (c : tie.After-least) → c .least .result ≤ c .before .args .basis

@@ -56,7 +56,7 @@ lent c = let a = c .args in filled (a .rows .now) (a .constants .now) (a .basis 
 within : (c : tie.Else1) → let a = at1 c .args in overfullBy (a .system) (a .region) (a .known) ≡ false
 within c = sym (c .before .overfull .ensures) ∙ c .if1 .left
 
-bounds : (c : tie.Else1) → let a = at1 c .args in Limits (a .system) (a .region) (a .known)
+bounds : (c : tie.Else1) → let a = at1 c .args in Limits (a .system) (a .region)
 bounds c = let a = at1 c .args in limits (a .system) (a .region) (a .known) (within c)
 
 ranked : (c : tie.Else2) → let s = at2 c .args .system in s .rank ≤ min (s .rows) (s .atoms)
