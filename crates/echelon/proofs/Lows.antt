@@ -76,7 +76,7 @@ pub find-none : (r : Row) → empty (r .atoms) ≡ true → (bs : List Row) → 
 find-none r h [] = refl
 find-none r h (b ∷ bs) = ap (λ (t : Bool). cond t (some b) (find r bs)) (none-low′ (r .atoms) (b .atoms) h) ∙ find-none r h bs
 
-some-atom : (r : List Bool) (a : ℕ) → getD r a false ≡ true → empty r ≡ false
+pub some-atom : (r : List Bool) (a : ℕ) → getD r a false ≡ true → empty r ≡ false
 some-atom [] a h = sym h
 some-atom (true ∷ r) a h = refl
 some-atom (false ∷ r) zero h = absurd (false≢true h)

@@ -32,7 +32,7 @@ beq-true true = refl
 beq-true false = refl
 
 -- a row that is met added changes nothing
-add-met : (x : Assignment) (r b : Row) → meets b x ≡ true → meets (add r b) x ≡ meets r x
+pub add-met : (x : Assignment) (r b : Row) → meets b x ≡ true → meets (add r b) x ≡ meets r x
 add-met x r b h = sum-met r b x ∙ ap (Bool·beq (meets r x)) h ∙ beq-true (meets r x)
 
 -- so a row is left with the same solutions, among those of the older rows
@@ -52,7 +52,7 @@ overlap-none (false ∷ r) [] e = refl
 overlap-none (false ∷ r) (v ∷ x) e = overlap-none r x e
 
 -- an empty row is met exactly when its constant is 0
-empty-meets : (r : Row) (x : Assignment) (c : Bool) → empty (r .atoms) ≡ true → r .constant ≡ c → meets r x ≡ Bool·beq false c
+pub empty-meets : (r : Row) (x : Assignment) (c : Bool) → empty (r .atoms) ≡ true → r .constant ≡ c → meets r x ≡ Bool·beq false c
 empty-meets r x c e k = ap₂ (λ (o : ℕ) (d : Bool). Bool·beq (odd o) d) (overlap-none (r .atoms) x e) k
 
 -- ---- the rows left
@@ -94,7 +94,7 @@ kept n x =
 
 -- ---- the rows that the basis names
 
-meets-append : (l m : List Row) (x : Assignment) → meetsAll (l ++ m) x ≡ (meetsAll l x && meetsAll m x)
+pub meets-append : (l m : List Row) (x : Assignment) → meetsAll (l ++ m) x ≡ (meetsAll l x && meetsAll m x)
 meets-append [] m x = refl
 meets-append (r ∷ l) m x = ap (_&&_ (meets r x)) (meets-append l m x) ∙ sym (and-assoc (meets r x) (meetsAll l x) (meetsAll m x))
 

@@ -109,14 +109,14 @@ sorted-falling (r ∷ rs) h = go (empty (r .atoms)) refl (sorted-falling rs (h .
 
 -- ---- triangular, where nothing is decided
 
-abbrev free : ℕ → Decisions
+abbrev pub free : ℕ → Decisions
 free n = replicate n none
 
 free-undecided : (n : ℕ) → undecided (free n) ≡ n
 free-undecided zero = refl
 free-undecided (suc n) = ap suc (free-undecided n)
 
-free-agrees : (n : ℕ) (x : Assignment) → length x ≡ n → agrees (free n) x ≡ true
+pub free-agrees : (n : ℕ) (x : Assignment) → length x ≡ n → agrees (free n) x ≡ true
 free-agrees zero [] e = refl
 free-agrees zero (v ∷ x) e = let z : ⊥ = omega arith in absurd z
 free-agrees (suc n) [] e = let z : ⊥ = omega arith in absurd z

@@ -26,7 +26,7 @@ overlap-comm (false ∷ c) (false ∷ x) = overlap-comm c x
 pub dot-comm : (c x : List Bool) → dot c x ≡ dot x c
 dot-comm c x = ap odd (overlap-comm c x)
 
-odd-sum : (m n : ℕ) → odd (m + n) ≡ xor (odd m) (odd n)
+pub odd-sum : (m n : ℕ) → odd (m + n) ≡ xor (odd m) (odd n)
 unfolding xor
 odd-sum m n = sym (Bool·not-not (odd (m + n))) ∙ ap not (sym (odd-suc (m + n)) ∙ sym (odd-beq m n))
 

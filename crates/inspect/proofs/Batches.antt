@@ -14,11 +14,11 @@ use Rattle.inspect.proofs.Following.{chosen, Follows}
 
 -- ---- agreeing, atom by atom
 
-beq-self : (v : Bool) → Bool·beq v v ≡ true
+pub beq-self : (v : Bool) → Bool·beq v v ≡ true
 beq-self true = refl
 beq-self false = refl
 
-beq-same : (w v : Bool) → Bool·beq w v ≡ true → w ≡ v
+pub beq-same : (w v : Bool) → Bool·beq w v ≡ true → w ≡ v
 beq-same true true e = refl
 beq-same true false e = absurd (false≢true e)
 beq-same false true e = absurd (false≢true e)

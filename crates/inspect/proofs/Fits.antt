@@ -58,7 +58,7 @@ module _ (m : ℕ) (basis : List ℕ) where
   names-each : (rank : ℕ) → misnames m basis rank ≡ false → (j : ℕ) → j < rank → getD basis j 0 < m
   names-each rank none j h = leb-false m _ (any-each (misnames m basis) misnamesAt misnames-start misnames-more rank none j h)
 
-  names-none : (rank : ℕ) → ((j : ℕ) → j < rank → getD basis j 0 < m) → misnames m basis rank ≡ false
+  pub names-none : (rank : ℕ) → ((j : ℕ) → j < rank → getD basis j 0 < m) → misnames m basis rank ≡ false
   names-none rank each = any-none (misnames m basis) misnamesAt misnames-start misnames-more rank (λ j h. lt-leb m _ (each j h))
 
 -- ---- both ways

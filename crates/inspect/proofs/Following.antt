@@ -60,7 +60,7 @@ decided-atom true false true k m n h e = absurd (false≢true h)
 decided-atom true false false k m n h e = e
 decided-atom false w v k m n h e = e
 
-overlap-parts : (p : Decisions) (r : List Bool) (x : Assignment) → agrees p x ≡ true
+pub overlap-parts : (p : Decisions) (r : List Bool) (x : Assignment) → agrees p x ≡ true
     → overlap r x ≡ overlap r (map isHeld p) + overlap (zipWith _&&_ r (map isOpen p)) x
 unfolding zipWith
 overlap-parts p [] x h = refl

@@ -128,7 +128,7 @@ module _ (n m : ℕ) (l : Lent) (number : prepareOf n m l .0 .number ≡ 0) wher
   abbrev memory : Filled
   memory = filledBy (prepareOf n m l .1)
 
-  basis-met : (x : Assignment) → system .refuted ≡ false → meetsAll (basisIn system memory) x ≡ meetsAll (handedIn n m l) x
+  pub basis-met : (x : Assignment) → system .refuted ≡ false → meetsAll (basisIn system memory) x ≡ meetsAll (handedIn n m l) x
   basis-met x sound =
       ap (λ (k : ℕ). meetsAll (basisOf k (memory .rows) (memory .constants) (take (system .rank) (memory .basis))) x) (prepare-fits n m l number .atoms)
       ∙ prepare-keeps n m l x number .0 sound

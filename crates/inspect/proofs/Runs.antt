@@ -218,7 +218,7 @@ module _ (s : System) (l : Filled) (r : Region) (known : Snapshot) (atoms values
       let b = applied (begun (decisions r)) (c .forced) in
       chosen (λ (i : Inspected). stepNumber (i .answer) ≡ 0) (c .sound) _ _ (λ t. answer-taken (b .held) (b .cut) (b .against)) (λ t. refl)
 
-  inspect-taken : inspectUnfit s l r known (length atoms) (length values) ≡ 0 → stepNumber (inspectOf s l r known atoms values .result .answer) ≡ 0
+  pub inspect-taken : inspectUnfit s l r known (length atoms) (length values) ≡ 0 → stepNumber (inspectOf s l r known atoms values .result .answer) ≡ 0
   unfolding inspectOf
   inspect-taken = go (inspectUnfit s l r known (length atoms) (length values))
     where
@@ -234,7 +234,7 @@ unfolding regionOf
 ancestor-atoms p known unknown set = absurd (false≢true set)
 ancestor-atoms p known (earlier q same gains) set = same
 
-lent-fit : (n m : ℕ) (q : Prepared × Lent) → Fits n m q → Fit n m (q .1 .rows) (q .1 .constants)
+pub lent-fit : (n m : ℕ) (q : Prepared × Lent) → Fits n m q → Fit n m (q .1 .rows) (q .1 .constants)
 lent-fit n m q f =
     let ws = q .1 .rows in
     let cs = q .1 .constants in

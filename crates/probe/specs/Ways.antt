@@ -1,0 +1,94 @@
+-- Demand 3's setting: what is handed in, the calls, and the ways to settle all measures.
+use Prim.Native.Nat.{ℕ, _-_, _^_, _≤_}
+use mathlib.Core.Path.{_≡_}
+use mathlib.Core.List.{List, [], _∷_, _++_, map, reverse}
+use mathlib.Core.Bool.{Bool, true, false, cond, _&&_, Bool·beq}
+use lib.ListN.{length, getD}
+use Rattle.rows.specs.Row.{Row, Assignment, meets}
+use Rattle.rows.specs.Count.{count}
+use Rattle.rows.specs.Decisions.{undecided}
+use Rattle.hull.specs.Equations.{hullOf}
+use Rattle.hull.specs.Propose.{limit, tableWords}
+use Rattle.embed.specs.Embed.{Rising, meetsTable, rowOver}
+use Rattle.parity.specs.Prepare.{Lent, prepareOf}
+use Rattle.parity.specs.Promises.{handedIn}
+use Rattle.parity.specs.declared.Prepared.{Prepared}
+use Rattle.region.specs.Masks.{decisions}
+use Rattle.region.specs.Calls.{accepted, holdOf, cutOf}
+use Rattle.inspect.specs.Inspect.{stepNumber, inspectOf}
+use Rattle.inspect.specs.Promises.{filledBy}
+use Rattle.inspect.specs.Run.{Call, hold, cut, inspect, State, begins, step, after}
+use Rattle.probe.specs.Probe.{probeOf}
+
+-- "over any accepted rows and exact tables": a row over n atoms, or a table by the atoms that it names and its words.
+pub data Part : Type 0 where
+  row : Row → Part
+  table : List ℕ → List ℕ → Part
+
+-- "its tables are fit for kind 3": k atoms strictly rising below n, k up to 8, the words wanted, and exact.
+abbrev pub FitPart : ℕ → Part → Type 0
+FitPart n (row r) = length (r .atoms) ≡ n
+FitPart n (table names words) =
+    Rising 0 n names × (length names ≤ limit) × (length words ≡ tableWords (length names)) × (hullOf (length names) words .exact ≡ true)
+
+abbrev pub FitParts : ℕ → List Part → Type 0
+FitParts n [] = Unit {0}
+FitParts n (q ∷ qs) = FitPart n q × FitParts n qs
+
+-- "A table becomes its hull's equations, in its place": the rows in order.
+abbrev pub rowsOf : ℕ → Part → List Row
+rowsOf n (row r) = r ∷ []
+rowsOf n (table names words) = map (rowOver n names) (hullOf (length names) words .rows)
+
+abbrev pub allRows : ℕ → List Part → List Row
+allRows n [] = []
+allRows n (q ∷ qs) = rowsOf n q ++ allRows n qs
+
+-- "meets every row and table as first handed in"
+abbrev pub meetsPart : Part → Assignment → Bool
+meetsPart (row r) x = meets r x
+meetsPart (table names words) x = meetsTable names words x
+
+abbrev pub meetsParts : List Part → Assignment → Bool
+meetsParts [] x = true
+meetsParts (q ∷ qs) x = meetsPart q x && meetsParts qs x
+
+-- "A way agrees with every decision accepted from the caller in the list": a call's own demand on an assignment, by the answer of that very
+-- call.
+abbrev pub demands : State → Call → Assignment → Bool
+demands st (hold a) x = cond (accepted (holdOf (st .region) a .answer)) (Bool·beq (getD x (a .0) false) true) true
+demands st (cut a) x = cond (accepted (cutOf (st .region) a .answer)) (Bool·beq (getD x (a .0) false) false) true
+demands st (inspect s l atoms values) x = true
+
+abbrev pub demandsAll : State → List Call → Assignment → Bool
+demandsAll st [] x = true
+demandsAll st (c ∷ cs) x = demands st c x && demandsAll (step st c) cs x
+
+-- "Buffers, as filled, and system are the same for the probe and every call not refused": a refused inspection may be lent anything.
+abbrev pub Lends : Prepared × Lent → State → Call → Type 0
+Lends p st (hold a) = Unit {0}
+Lends p st (cut a) = Unit {0}
+Lends p st (inspect s l atoms values) =
+    stepNumber (inspectOf s l (st .region) (st .known) atoms values .result .answer) ≡ 0 → (s ≡ p .0 .system) × (l ≡ filledBy (p .1))
+
+abbrev pub LendsAll : Prepared × Lent → State → List Call → Type 0
+LendsAll p st [] = Unit {0}
+LendsAll p st (c ∷ cs) = Lends p st c × LendsAll p (step st c) cs
+
+-- "A way agrees with every decision accepted from the caller in the list and meets every row and table as first handed in."
+abbrev pub way : List Part → State → List Call → Assignment → Bool
+way parts st cs x = meetsParts parts x && demandsAll st cs x
+
+-- Demand 3: "The ways to settle all measures number exactly 2^(u - k) when the probe says yes, and 0 exactly when it says no. This holds after
+-- every list of hold, cut and inspect calls, refused ones included, from an undecided region and fresh knowledge, over any accepted rows and
+-- exact tables. .. One preparation fills the buffers from those rows and tables and returns the system". (The rows handed in stand last first.)
+abbrev pub WaysCounted : Type 0
+WaysCounted = (n m : ℕ) (parts : List Part) (l : Lent) (cs : List Call)
+    → let p = prepareOf n m l in
+    let st = after (begins n) cs in
+    let q = probeOf (p .0 .system) (p .1 .rows) (p .1 .constants) (p .1 .basis) (st .region) in
+    FitParts n parts → handedIn n m l ≡ reverse (allRows n parts) → p .0 .number ≡ 0 → LendsAll p (begins n) cs
+    → (q .number ≡ 0)
+    × (q .undecided ≡ undecided (decisions (st .region)))
+    × (q .yes ≡ true → (q .kept ≤ q .undecided) × (count n (way parts (begins n) cs) ≡ 2 ^ (q .undecided - q .kept)))
+    × (q .yes ≡ false → count n (way parts (begins n) cs) ≡ 0)
