@@ -310,6 +310,26 @@ worzubil_inspection worzubil_inspect(worzubil_system system, const uint64_t *row
                                      size_t index_length, worzubil_region region, worzubil_snapshot known, size_t *forced_atoms,
                                      size_t forced_atoms_length, uint8_t *forced_values, size_t forced_values_length);
 
+/* ---- the probe */
+
+/* `yes` says whether the atoms that the region leaves open can come out so that every row is met; `undecided` is how many there are, and
+ * `kept` how many independent rows were kept. On yes there are exactly 2^(undecided - kept) ways, on no there is none. Refused, `number` is
+ * not 0 and the other fields are 0. */
+typedef struct {
+    size_t number;
+    bool yes;
+    size_t undecided;
+    size_t kept;
+} worzubil_probed;
+
+/* Probes the basis rows of a prepared system against a region. A refuted system is no, with none kept.
+ * rows, constants and basis: as for worzubil_inspect; nothing is written.
+ * Refused: 10 where system or region has more than 512 atoms, or the system more than 512 rows; 13 where the rank is above
+ * min(system.rows, system.atoms); 9 where a buffer is shorter; 11, 12 and 13 as by worzubil_inspect; 15 where system and region differ in
+ * their atom counts. */
+worzubil_probed worzubil_probe(worzubil_system system, const uint64_t *rows, size_t rows_length, const uint8_t *constants,
+                               size_t constants_length, const size_t *basis, size_t basis_length, worzubil_region region);
+
 #ifdef __cplusplus
 }
 #endif

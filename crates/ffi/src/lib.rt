@@ -1,6 +1,6 @@
 // The public calls for C, each with the equation of the call it exports; include/worzubil.h declares them. Those of `words` and `rows`
 // stand here, those of `hull` and `embed` in hulls.rt, those of `parity` and `index` in prepares.rt, those of `region`, `snapshot` and
-// `inspect` in inspects.rt.
+// `inspect` in inspects.rt, that of `probe` in probes.rt.
 // A row's number, a place of the basis and an atom are plain numbers here. specs/Answers.antt says how each answer is told.
 ghost use mathlib.Core.Path.{_≡_};
 ghost use mathlib.Core.Bool.{cond};
@@ -18,6 +18,7 @@ ghost use Rattle.ffi.specs.Answers.{setBits, rowNumber, basisPlace, loca
 pub mod hulls;
 pub mod inspects;
 pub mod prepares;
+pub mod probes;
 
 // An answer: kind 0 with its value (of a yes or no: 1 or 0), 1 nothing there, 2 unfit, 3 more bits than a usize numbers.
 #[repr(C)]

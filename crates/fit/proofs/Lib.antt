@@ -2,3 +2,4 @@
 pub mod Among
 pub mod Stray
 pub mod Fitting
+pub mod Naming

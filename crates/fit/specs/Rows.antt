@@ -1,4 +1,4 @@
--- What a caller can be told no for who lends m rows over n atoms and their constants.
+-- What a caller can be told no for who lends m rows over n atoms, their constants and a basis of them.
 use Prim.Native.Nat.{ℕ, zero, suc, _*_, _^_}
 use mathlib.Core.List.{List, [], _∷_}
 use mathlib.Core.Bool.{Bool, false, _||_}
@@ -28,3 +28,8 @@ strays n w ws cs (suc m) = strays n w ws cs m || (leb (2 ^ n) (setOf (row w ws m
 
 unfoldable pub rowsUnfit : ℕ → ℕ → List ℕ → List ℕ → ℕ
 rowsUnfit n m ws cs = refusal ((10, overfull n m) ∷ (9, short n m ws cs) ∷ (11, strays n (widthOf n) ws cs m) ∷ [])
+
+-- "13: .. a basis entry below the rank naming no row"
+unfoldable pub misnames : ℕ → List ℕ → ℕ → Bool
+misnames m basis zero = false
+misnames m basis (suc rank) = misnames m basis rank || leb m (getD basis rank 0)

@@ -6,7 +6,7 @@ ghost use lib.ListN.{length};
 ghost use lib.Dec.{leb};
 ghost use Rattle.words.specs.Set.{setOf};
 ghost use Rattle.rows.specs.Flat.{widthOf, row};
-ghost use Rattle.fit.specs.Rows.{strays, rowsUnfit};
+ghost use Rattle.fit.specs.Rows.{strays, misnames, rowsUnfit};
 
 // The most atoms, and the most rows.
 const LIMIT: usize = 512;
@@ -47,6 +47,21 @@ pub fn least(a: usize, b: usize) -> usize
     ensures { λ r. ⌜ r ≡ min a b ⌝ }
 {
     if a <= b { a } else { b }
+}
+
+// Whether one of the first `rank` entries of a basis, as far as it has them, names none of m rows.
+pub fn any_misnames(basis: &[usize], m: usize, rank: usize) -> bool
+    ensures { λ r. ⌜ r ≡ misnames m (now (basis .entry)) (min rank (length (now (basis .entry)))) ⌝ }
+{
+    let entries = least(rank, basis.len());
+    let mut j = 0;
+    while j < entries {
+        if basis[j] >= m {
+            return true;
+        }
+        j += 1;
+    }
+    false
 }
 
 // The number under which m lent rows over n atoms and their constants are refused, or 0.

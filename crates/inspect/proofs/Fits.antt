@@ -8,9 +8,10 @@ use borrow.Author.Tests.{ltb-false, leb-false, eqb-true, not-true, not-false, le
 use lib.ListN.{length, getD}
 use lib.Dec.{leb, ltb, eqb}
 use Rattle.rows.specs.Flat.{widthOf}
-use Rattle.fit.specs.Rows.{overfull, short, strays}
-use Rattle.fit.proofs.Among.{or-none, any-next, any-found, any-each, any-none}
+use Rattle.fit.specs.Rows.{overfull, short, strays, misnames}
+use Rattle.fit.proofs.Among.{or-none}
 use Rattle.fit.proofs.Fitting.{Fit, fit-of, strays-none, passed}
+use Rattle.fit.proofs.Naming.{names-each, names-none}
 use Rattle.index.specs.Index.{columnWidth}
 use Rattle.index.specs.Column.{overRank}
 use Rattle.parity.specs.declared.System.{System}
@@ -19,7 +20,7 @@ use Rattle.region.specs.declared.Region.{Region}
 use Rattle.snapshot.specs.Knowledge.{overfullBy, unequal, missing}
 use Rattle.snapshot.specs.declared.Snapshot.{Snapshot}
 use Rattle.snapshot.proofs.Chained.{and-none}
-use Rattle.inspect.specs.Inspect.{Filled, listsShort, misnames, inspectUnfit}
+use Rattle.inspect.specs.Inspect.{Filled, listsShort, inspectUnfit}
 
 pub record Fits (s : System) (l : Filled) (r : Region) (known : Snapshot) (atoms values : ℕ) : Type 0 where
   pub lent : Fit (s .atoms) (s .rows) (l .rows) (l .constants)
@@ -34,32 +35,6 @@ pub record Fits (s : System) (l : Filled) (r : Region) (known : Snapshot) (atoms
   pub same-atoms : r .atoms ≡ s .atoms
   pub known-atoms : known .initialized ≡ true → known .atoms ≡ r .atoms
   pub ancestor : missing r known ≡ false
-
--- ---- one basis entry after another
-
-module _ (m : ℕ) (basis : List ℕ) where
-  abbrev misnamesAt : ℕ → Bool
-  misnamesAt j = leb m (getD basis j 0)
-
-  pub misnames-start : misnames m basis 0 ≡ false
-  unfolding misnames
-  misnames-start = refl
-
-  misnames-more : (rank : ℕ) → misnames m basis (suc rank) ≡ (misnames m basis rank || misnamesAt rank)
-  unfolding misnames
-  misnames-more rank = refl
-
-  pub misnames-next : (j : ℕ) → misnames m basis j ≡ false → misnamesAt j ≡ false → misnames m basis (j + 1) ≡ false
-  misnames-next = any-next (misnames m basis) misnamesAt misnames-start misnames-more
-
-  pub misnames-found : (rank j : ℕ) → j < rank → misnamesAt j ≡ true → misnames m basis rank ≡ true
-  misnames-found = any-found (misnames m basis) misnamesAt misnames-start misnames-more
-
-  names-each : (rank : ℕ) → misnames m basis rank ≡ false → (j : ℕ) → j < rank → getD basis j 0 < m
-  names-each rank none j h = leb-false m _ (any-each (misnames m basis) misnamesAt misnames-start misnames-more rank none j h)
-
-  pub names-none : (rank : ℕ) → ((j : ℕ) → j < rank → getD basis j 0 < m) → misnames m basis rank ≡ false
-  names-none rank each = any-none (misnames m basis) misnamesAt misnames-start misnames-more rank (λ j h. lt-leb m _ (each j h))
 
 -- ---- both ways
 

@@ -1,7 +1,6 @@
 -- The laws behind the promises and the contracts of this crate.
 pub mod Fits
 pub mod Refusing
-pub mod Common
 pub mod Overlaps
 pub mod Readings
 pub mod Visits

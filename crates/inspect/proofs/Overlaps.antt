@@ -19,7 +19,7 @@ use Rattle.rows.specs.declared.Overlap.{Overlap}
 use Rattle.rows.specs.declared.Overlap.the-variants as overlap
 use Rattle.rows.proofs.Places.{row-length}
 use Rattle.inspect.specs.Steps.{Legible}
-use Rattle.inspect.proofs.Common.{and-take}
+use Rattle.words.proofs.Common.{and-take}
 
 module _ (n : ℕ) (ws cs : List ℕ) (s : Source) (mask : List ℕ) (fit : Legible n ws cs (s .0)) (eight : length mask ≡ 8) where
   abbrev w : ℕ

@@ -21,7 +21,7 @@ use Rattle.inspect.specs.declared.Reading.the-variants.{Quiet, Forces, W
 use Rattle.inspect.specs.Consequences.{saysBy, readingOf}
 use Rattle.inspect.specs.Steps.{Legible}
 
-atoms-and : (n a b : ℕ) → zipWith _&&_ (atomsOf n a) (atomsOf n b) ≡ atomsOf n (bitAnd a b)
+pub atoms-and : (n a b : ℕ) → zipWith _&&_ (atomsOf n a) (atomsOf n b) ≡ atomsOf n (bitAnd a b)
 unfolding atomsOf zipWith
 atoms-and zero a b = refl
 atoms-and (suc n) a b =

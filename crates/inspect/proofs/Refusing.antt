@@ -8,7 +8,7 @@ use borrow.Author.Tests.{le-ltb}
 use lib.ListN.{length}
 use Rattle.rows.specs.Flat.{widthOf}
 use Rattle.fit.specs.Refusal.{refusal}
-use Rattle.fit.specs.Rows.{short, strays, rowsUnfit}
+use Rattle.fit.specs.Rows.{short, strays, misnames, rowsUnfit}
 use Rattle.index.specs.Index.{columnWidth}
 use Rattle.index.specs.Column.{overRank}
 use Rattle.parity.specs.declared.System.{System}
@@ -17,7 +17,7 @@ use Rattle.region.specs.declared.Region.{Region}
 use Rattle.snapshot.specs.Knowledge.{overfullBy, unequal, missing}
 use Rattle.snapshot.specs.declared.Snapshot.{Snapshot}
 use Rattle.snapshot.proofs.Chained.{passes}
-use Rattle.inspect.specs.Inspect.{Filled, listsShort, misnames, inspectUnfit}
+use Rattle.inspect.specs.Inspect.{Filled, listsShort, inspectUnfit}
 
 pub or-left : (a b : Bool) → a ≡ true → (a || b) ≡ true
 or-left a b e = ap (λ (t : Bool). t || b) e

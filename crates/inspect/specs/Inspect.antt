@@ -6,7 +6,7 @@ use lib.ListN.{length, getD, take, drop}
 use lib.Dec.{leb, ltb, eqb}
 use Rattle.rows.specs.Flat.{widthOf}
 use Rattle.fit.specs.Refusal.{refusal, orRefused}
-use Rattle.fit.specs.Rows.{short, strays}
+use Rattle.fit.specs.Rows.{short, strays, misnames}
 use Rattle.index.specs.Index.{columnWidth}
 use Rattle.index.specs.Column.{overRank}
 use Rattle.parity.specs.Basis.{basisOf}
@@ -52,11 +52,6 @@ abbrev pub listsShort : System → ℕ → ℕ → ℕ → ℕ → Bool
 listsShort s basis index atoms values =
     ltb basis (min (s .rows) (s .atoms))
     || (ltb index (s .atoms * columnWidth (s .rank)) || (ltb atoms (s .rank) || ltb values (s .rank)))
-
--- "13: .. a basis entry below the rank naming no row"
-unfoldable pub misnames : ℕ → List ℕ → ℕ → Bool
-misnames m basis zero = false
-misnames m basis (suc rank) = misnames m basis rank || leb m (getD basis rank 0)
 
 -- The checks in their order: 10, 13 for the rank, 9, 11, 12, 13, 14 ("not checked where the system is refuted"), 15, 16.
 unfoldable pub inspectUnfit : System → Filled → Region → Snapshot → ℕ → ℕ → ℕ

@@ -4,8 +4,7 @@ use region::Region;
 use snapshot::Snapshot;
 ghost use mathlib.Core.Path.{_≡_};
 ghost use Prim.Native.Nat.{_≤_};
-ghost use lib.ListN.{length};
-ghost use Rattle.inspect.specs.Inspect.{filled, listsShort, misnames, inspectUnfit};
+ghost use Rattle.inspect.specs.Inspect.{filled, listsShort, inspectUnfit};
 
 // Whether basis, index or forced list are too short, by their lengths.
 fn lists_short(system: System, basis: usize, index: usize, atoms: usize, values: usize) -> bool
@@ -22,21 +21,6 @@ fn lists_short(system: System, basis: usize, index: usize, atoms: usize, values:
         return true;
     }
     values < system.rank
-}
-
-// Whether an entry of the basis below the rank names none of m rows.
-fn any_misnames(basis: &[usize], m: usize, rank: usize) -> bool
-    requires { ⌜ rank ≤ length (now basis) ⌝ }
-    ensures { λ r. ⌜ r ≡ misnames m (now (basis .entry)) rank ⌝ }
-{
-    let mut j = 0;
-    while j < rank {
-        if basis[j] >= m {
-            return true;
-        }
-        j += 1;
-    }
-    false
 }
 
 // The number, or 0.
@@ -73,7 +57,7 @@ pub fn unfit(
     if number != 0 {
         return number;
     }
-    if any_misnames(basis, system.rows, system.rank) {
+    if fit::any_misnames(basis, system.rows, system.rank) {
         return 13;
     }
     if snapshot::past_rank(system, index) {

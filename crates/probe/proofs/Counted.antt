@@ -9,7 +9,8 @@ use Rattle.rows.proofs.Triangle.{triangular-leaves}
 use Rattle.probe.specs.Elimination.{eliminated}
 use Rattle.probe.specs.Promises.{KeptFew, ProbeCounts}
 use Rattle.probe.proofs.Meanings.{sound-meets, unsound-none}
-use Rattle.probe.proofs.Pivoted.{pivots, kept-triangular}
+use Rattle.probe.specs.Steps.{pivots}
+use Rattle.probe.proofs.Pivoted.{kept-triangular}
 
 pub kept-few : KeptFew
 kept-few p rs = let kept = eliminated p rs .rows in triangular-leaves p (pivots kept) kept (kept-triangular p rs) .0

@@ -15,7 +15,8 @@ use Rattle.echelon.proofs.Lows.{some-atom}
 use Rattle.hull.proofs.Only.{getD-zeros}
 use Rattle.probe.specs.Elimination.{eliminated}
 use Rattle.probe.specs.Promises.{KeptIndependent}
-use Rattle.probe.proofs.Pivoted.{has-sum, pivots, kept-triangular}
+use Rattle.probe.specs.Steps.{pivots}
+use Rattle.probe.proofs.Pivoted.{has-sum, kept-triangular}
 
 -- what would be false if it were true
 never : (b : Bool) → (b ≡ true → true ≡ false) → b ≡ false

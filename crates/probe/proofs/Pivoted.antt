@@ -15,10 +15,11 @@ use Rattle.echelon.proofs.Reducing.{Each}
 use Rattle.region.specs.Masks.{isOpen}
 use Rattle.inspect.proofs.Following.{chosen}
 use Rattle.probe.specs.Elimination.{substituted, reducedBy, Kept, keeps, step, keptFrom, eliminated}
+use Rattle.probe.specs.Steps.{pivots}
 
 -- ---- the atoms of a sum
 
-has-plus : (r s : List Bool) (a : ℕ) → getD (plus r s) a false ≡ xor (getD r a false) (getD s a false)
+pub has-plus : (r s : List Bool) (a : ℕ) → getD (plus r s) a false ≡ xor (getD r a false) (getD s a false)
 has-plus [] s a = sym (xor-false (getD s a false))
 has-plus (b ∷ r) [] a = sym (xor-comm (getD (b ∷ r) a false) false ∙ xor-false (getD (b ∷ r) a false))
 has-plus (b ∷ r) (c ∷ s) zero = refl
@@ -62,9 +63,6 @@ reduced-undecided p (k ∷ ks) r each h =
     chosen (Undecided p) (hasAtom s (low (k .atoms))) (add s k) s (λ e. sum-undecided p s k rest (each .0)) (λ e. rest)
 
 -- ---- triangular form
-
-abbrev pub pivots : List Row → List ℕ
-pivots ks = map (λ k. low (k .atoms)) ks
 
 -- a reduced row has no pivot of the rows kept
 reduced-clear : (p : Decisions) (ks : List Row) (r : Row) → Triangular p (pivots ks) ks → HasNone (reducedBy ks r) (pivots ks)

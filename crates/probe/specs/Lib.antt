@@ -2,4 +2,4 @@
 pub mod Elimination
 pub mod Promises
 pub mod Probe
-pub mod Ways
+pub mod Steps

@@ -7,13 +7,12 @@ use lib.Dec.{ltb, eqb}
 use Rattle.rows.specs.Decisions.{undecided}
 use Rattle.rows.specs.Flat.{widthOf}
 use Rattle.fit.specs.Refusal.{refusal, orRefused}
-use Rattle.fit.specs.Rows.{limit, overfull, short, strays}
+use Rattle.fit.specs.Rows.{limit, overfull, short, strays, misnames}
 use Rattle.parity.specs.Basis.{basisOf}
 use Rattle.parity.specs.declared.System.{System}
 use Rattle.region.specs.Masks.{decisions}
 use Rattle.region.specs.Calls.{strayed, clashes}
 use Rattle.region.specs.declared.Region.{Region}
-use Rattle.inspect.specs.Inspect.{misnames}
 use Rattle.probe.specs.Elimination.{eliminated}
 use Rattle.probe.specs.declared.Probed.{Probed}
 

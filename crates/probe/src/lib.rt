@@ -1,4 +1,16 @@
-// The probe: whether the rest can come out. Here stand its definition and its theorems, demand 3 among them; the call itself comes next.
+// The probe: whether the rest can come out, a port of consistent_in_reserved of parity/runtime.rs over lent memory.
+use parity::System;
+use region::Region;
+ghost use mathlib.Core.Path.{_≡_};
+ghost use lib.Count.{ones};
+ghost use Rattle.words.specs.Set.{setOf};
+ghost use Rattle.rows.specs.Decisions.{undecided};
+ghost use Rattle.region.specs.Masks.{decisions};
+ghost use Rattle.region.specs.Calls.{regionUnfit};
+ghost use Rattle.probe.specs.Probe.{toldOf, probeOf};
+
+mod checks;
+mod eliminate;
 pub mod promises;
 
 // What the probe answers: its number, yes or no, u (the atoms neither held nor cut) and k (the rows kept).
@@ -8,4 +20,59 @@ pub struct Probed {
     pub yes: bool,
     pub undecided: usize,
     pub kept: usize,
+}
+
+// A result by its fields.
+fn told(number: usize, yes: bool, undecided: usize, kept: usize) -> Probed
+    ensures { λ r. ⌜ r ≡ toldOf number yes undecided kept ⌝ }
+{
+    Probed {
+        number: number,
+        yes: yes,
+        undecided: undecided,
+        kept: kept,
+    }
+}
+
+// How many atoms a mask has.
+fn size(mask: &[u64; 8]) -> usize
+    ensures { λ r. ⌜ r ≡ ones (setOf (now (mask .entry))) ⌝ }
+{
+    match words::count(mask) {
+        words::Counted::Are(n) => n,
+        words::Counted::Unequal => 0,
+        words::Counted::TooWide => 0,
+    }
+}
+
+// "u counts atoms neither held nor cut."
+fn open_count(region: Region) -> usize
+    requires { ⌜ regionUnfit region ≡ 0 ⌝ }
+    ensures { λ r. ⌜ r ≡ undecided (decisions region) ⌝ }
+{
+    let held = size(&region.held);
+    let cut = size(&region.cut);
+    region.atoms - held - cut
+}
+
+// Whether the open atoms can still come out so that every basis row of a prepared system is met.
+pub fn probe(
+    system: System,
+    rows: &[u64],
+    constants: &[u8],
+    basis: &[usize],
+    region: Region,
+) -> Probed
+    ensures { λ r. ⌜ r ≡ probeOf system (now (rows .entry)) (now (constants .entry)) (now (basis .entry)) region ⌝ }
+{
+    let number = checks::unfit(system, rows, constants, basis, region);
+    if number != 0 {
+        return told(number, false, 0, 0);
+    }
+    let undecided = open_count(region);
+    if system.refuted {
+        return told(0, false, undecided, 0);
+    }
+    let left = eliminate::eliminate(system, rows, constants, basis, region);
+    told(0, left.sound, undecided, left.kept)
 }

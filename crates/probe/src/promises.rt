@@ -1,7 +1,6 @@
-// The theorems of `probe`, each held by the gate as the contract of a function with an empty body; specs/Promises.antt and
-// specs/Ways.antt have the statements.
+// The theorems of `probe`, each held by the gate as the contract of a function with an empty body; specs/Promises.antt has
+// the statements.
 ghost use Rattle.probe.specs.Promises.{KeptFew, ProbeCounts, KeptIndependent};
-ghost use Rattle.probe.specs.Ways.{WaysCounted};
 
 // no more rows are kept than atoms are undecided
 pub fn kept_few()
@@ -16,9 +15,4 @@ pub fn probe_counts()
 // "they are independent: no sum of one or more different ones is empty"
 pub fn kept_independent()
     ensures { λ _. ⌜ KeptIndependent ⌝ }
-{}
-
-// demand 3: "The ways to settle all measures number exactly 2^(u - k) when the probe says yes, and 0 exactly when it says no."
-pub fn ways_counted()
-    ensures { λ _. ⌜ WaysCounted ⌝ }
 {}

@@ -50,28 +50,36 @@ pub fn mask<'a>(held: &'a [u64], cut: &'a [u64], value: bool) -> &'a [u64]
     if value { held } else { cut }
 }
 
-// The lowest atom from `from` on in a mask of eight words, or 512.
-pub fn next(mask: &[u64; 8], from: usize) -> usize
-    ensures { λ r. ⌜ r ≡ nextOf (setOf (now (mask .entry))) from ⌝ }
+// The lowest atom from `from` on that two masks of eight words have in common, or 512.
+pub fn next_common<'a>(left: &'a [u64; 8], right: &'a [u64; 8], from: usize) -> usize
+    ensures { λ r. ⌜ r ≡ nextOf (bitAnd (setOf (now (left .entry))) (setOf (now (right .entry)))) from ⌝ }
 {
-    let words: &[u64] = mask;
+    let first: &[u64] = left;
+    let second: &[u64] = right;
     let mut i = from / 64;
     if i >= 8 {
         return LIMIT;
     }
-    let rest = words[i] >> (from % 64);
+    let rest = (first[i] & second[i]) >> (from % 64);
     if rest != 0 {
         return from + u64::trailing_zeros(rest) as usize;
     }
     i += 1;
     while i < 8 {
-        let word = words[i];
+        let word = first[i] & second[i];
         if word != 0 {
             return i * 64 + u64::trailing_zeros(word) as usize;
         }
         i += 1;
     }
     LIMIT
+}
+
+// The lowest atom from `from` on in a mask of eight words, or 512.
+pub fn next(mask: &[u64; 8], from: usize) -> usize
+    ensures { λ r. ⌜ r ≡ nextOf (setOf (now (mask .entry))) from ⌝ }
+{
+    next_common(mask, mask, from)
 }
 
 // Whether two masks have an atom in common.

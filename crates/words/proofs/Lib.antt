@@ -8,3 +8,4 @@ pub mod Scan
 pub mod Counts
 pub mod Merged
 pub mod Meaning
+pub mod Common

@@ -8,13 +8,14 @@ use mathlib.Core.List.{_∷_}
 use lib.ListN.{length}
 use lib.Dec.{ltb}
 use Rattle.fit.specs.Refusal.{refusal}
-use Rattle.fit.specs.Rows.{short}
+use Rattle.fit.specs.Rows.{short, misnames}
 use Rattle.fit.proofs.Among.{or-none, or-right}
+use Rattle.fit.proofs.Naming.{misnames-all}
 use Rattle.index.specs.Index.{columnWidth}
 use Rattle.index.specs.Column.{overRank}
 use Rattle.region.specs.Calls.{strayed, clashes}
 use Rattle.snapshot.specs.Knowledge.{overfullBy}
-use Rattle.inspect.specs.Inspect.{Filled, filled, listsShort, misnames, inspectUnfit}
+use Rattle.inspect.specs.Inspect.{Filled, filled, listsShort, inspectUnfit}
 use Rattle.snapshot.proofs.Chained.{Limits, limits, refuses, passes, region-refuses, region-passes, over-rank-is}
 use Rattle.inspect.proofs.Refusing.{or-left, lent-short, lent-enough, lent-strays, lent-clean, late, after-rows}
 use borrow.Author.Needs.{needs}
@@ -178,12 +179,20 @@ lists c =
     (ltb-false _ _ (basis .0), ltb-false _ _ (index .0))
 
 any-misnames-requires : tie.Need-any-misnames-requires
-any-misnames-requires c κs =
-    let fourth = c .before .before .before in
-    omega (arith, ranked (fourth .before .before .before .before), lists fourth .0)
+any-misnames-requires c κs = search needs
+
+-- what `any_misnames` answers
+misnamed : (c : tie.After-any-misnames)
+    → let a = at6 (c .before) .args in
+    c .any-misnames .result ≡ misnames (a .system .rows) (a .basis .now) (a .system .rank)
+misnamed c =
+    let a = at6 (c .before) .args in
+    let fourth = c .before .before .before .before in
+    let room : a .system .rank ≤ length (a .basis .now) = omega (arith, ranked (fourth .before .before .before .before), lists fourth .0) in
+    c .any-misnames .ensures ∙ misnames-all (a .system .rows) (a .basis .now) (a .system .rank) room
 
 returns-7 : tie.Need-returns-7
-returns-7 c = settled (c .before .before) 13 (refuses _ 13 _ (sym (c .before .any-misnames .ensures) ∙ c .if7 .taken))
+returns-7 c = settled (c .before .before) 13 (refuses _ 13 _ (sym (misnamed (c .before)) ∙ c .if7 .taken))
 
 past-rank-requires : tie.Need-past-rank-requires
 past-rank-requires c κs = search needs
@@ -204,7 +213,7 @@ past c =
     (over-rank-is (a .index .now) (a .system .atoms) (a .system .rank) (record { 0 = 0 }) few low (lists fourth .1))
 
 named : (c : tie.Else7) → let a = at6 (c .before .before) .args in misnames (a .system .rows) (a .basis .now) (a .system .rank) ≡ false
-named c = sym (c .before .any-misnames .ensures) ∙ c .if7 .left
+named c = sym (misnamed (c .before)) ∙ c .if7 .left
 
 returns-8 : tie.Need-returns-8
 returns-8 c =

@@ -7,7 +7,7 @@ use lib.ListN.{length, getD}
 use lib.Bits.{bitAnd}
 use lib.Count.{trailing-le}
 use Rattle.words.proofs.Scan.{From}
-use Rattle.inspect.proofs.Common.{common, common-next, common-first, common-none}
+use Rattle.words.proofs.Common.{common, common-next, common-first, common-none}
 use borrow.Author.Needs.{needs}
 use Rattle.inspect.proofs.says.first_common.Statement.{statement}
 use Rattle.inspect.proofs.says.first_common.Tie as tie

@@ -7,7 +7,7 @@ use Rattle.rows.specs.Flat.{rowAt, atomsOf, maskOf, unpack}
 use Rattle.rows.specs.Calls.{partOf}
 use Rattle.hull.specs.Table.{allowedFrom, allowed}
 use Rattle.hull.specs.Equations.{enter, pivotsFrom, hullFrom, hullOf}
-use Rattle.fit.specs.Rows.{strays}
+use Rattle.fit.specs.Rows.{strays, misnames}
 use Rattle.echelon.specs.Forward.{forward, eliminated}
 use Rattle.echelon.specs.Eliminate.{rowsTo, wordsOf, constantsOf}
 use Rattle.index.specs.Index.{indexOf, incidencesOf}
@@ -18,12 +18,14 @@ use Rattle.region.specs.Calls.{decideUnfit, undecidedOf, holdOf}
 use Rattle.snapshot.specs.Touch.{marks, listed, touchedOf}
 use Rattle.inspect.specs.Consequences.{readingOf, consequences}
 use Rattle.inspect.specs.Batch.{applied}
-use Rattle.inspect.specs.Inspect.{misnames, inspectUnfit, inspectOf}
+use Rattle.inspect.specs.Inspect.{inspectUnfit, inspectOf}
+use Rattle.probe.specs.Elimination.{reducedBy, keptFrom}
+use Rattle.probe.specs.Probe.{probeUnfit, probeOf}
 use Rattle.settled.proofs.table.settled.Statement.{statement}
 use Rattle.settled.proofs.table.settled.Tie as tie
 
 returns : tie.Need-returns
-unfolding xor zipWith packed rowAt atomsOf maskOf unpack allowedFrom allowed enter pivotsFrom hullFrom hullOf strays forward eliminated rowsTo wordsOf constantsOf indexOf incidencesOf prepareUnfit prepareOf partOf overRank decisionsOf regionOf decideUnfit undecidedOf holdOf marks listed touchedOf readingOf consequences applied misnames inspectUnfit inspectOf
+unfolding xor zipWith packed rowAt atomsOf maskOf unpack allowedFrom allowed enter pivotsFrom hullFrom hullOf strays forward eliminated rowsTo wordsOf constantsOf indexOf incidencesOf prepareUnfit prepareOf partOf overRank decisionsOf regionOf decideUnfit undecidedOf holdOf marks listed touchedOf readingOf consequences applied misnames inspectUnfit inspectOf reducedBy keptFrom probeUnfit probeOf
 returns c = refl
 
 pub settled-spec : {M : Type 1} → statement M

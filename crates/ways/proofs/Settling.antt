@@ -27,14 +27,14 @@ use Rattle.inspect.specs.Run.{Call, begins, after}
 use Rattle.inspect.proofs.Following.{chosen}
 use Rattle.inspect.proofs.Inspections.{basis-met}
 use Rattle.inspect.proofs.Runs.{unknown, Reached, after-reached, lent-fit}
 use Rattle.probe.specs.Elimination.{eliminated}
 use Rattle.probe.specs.Probe.{toldOf}
-use Rattle.probe.specs.Ways.{Part, FitParts, allRows, demandsAll, LendsAll, way, WaysCounted}
+use Rattle.ways.specs.Ways.{Part, FitParts, allRows, demandsAll, LendsAll, way, WaysCounted}
 use Rattle.probe.specs.declared.Probed.{Probed}
 use Rattle.probe.proofs.Counted.{kept-few, where-true, probe-counts}
-use Rattle.probe.proofs.Handed.{handed-met}
-use Rattle.probe.proofs.Lasting.{lasting}
-use Rattle.probe.proofs.Unrefused.{prepared-probed}
+use Rattle.ways.proofs.Handed.{handed-met}
+use Rattle.ways.proofs.Lasting.{lasting}
+use Rattle.ways.proofs.Unrefused.{prepared-probed}
 
 begins-free : (n : ℕ) → n ≤ 512 → begins n .region ≡ regionOf (free n)
 unfolding undecidedOf
@@ -114,7 +114,7 @@ module _ (n m : ℕ) (parts : List Part) (l : Lent) (cs : List Call) (fit : FitP
   region-fit = ap regionUnfit (ran .is) ∙ region-fits (ran .now) ran-few
 
 pub ways-counted : WaysCounted
-ways-counted n m parts l cs fit handed number lends =
+ways-counted n m parts l cs (fit, handed, number, lends) =
     let told = Told n m parts l cs fit handed number lends in
     let p = prepareOf n m l in
     let r = after (begins n) cs .region in

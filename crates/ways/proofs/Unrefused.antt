@@ -9,15 +9,15 @@ use lib.Dec.{ltb}
 use Rattle.rows.specs.Flat.{widthOf}
 use Rattle.fit.specs.Refusal.{orRefused}
 use Rattle.fit.proofs.Fitting.{Fit, strays-none, passed}
+use Rattle.fit.proofs.Naming.{names-none}
 use Rattle.parity.specs.Prepare.{Lent}
 use Rattle.parity.specs.Promises.{Fits}
 use Rattle.parity.specs.declared.System.{System}
 use Rattle.parity.specs.declared.Prepared.{Prepared}
 use Rattle.region.specs.Calls.{strayed, clashes, regionUnfit}
 use Rattle.region.specs.declared.Region.{Region}
-use Rattle.inspect.proofs.Fits.{names-none}
 use Rattle.inspect.proofs.Runs.{lent-fit}
 use Rattle.probe.specs.Probe.{probeUnfit, toldOf, probed, probeOf}
 
 module _ (s : System) (ws cs ps : List ℕ) (r : Region) where
   fits-unfit : Fit (s .atoms) (s .rows) ws cs → s .rank ≤ min (s .rows) (s .atoms) → min (s .rows) (s .atoms) ≤ length ps

@@ -31,7 +31,7 @@ use Rattle.inspect.proofs.Following.{chosen}
 use Rattle.inspect.proofs.Batches.{beq-self, beq-same, agrees-at}
 use Rattle.inspect.proofs.Inspections.{forced-follow}
 use Rattle.inspect.proofs.Runs.{Ancestor, after-reached, inspect-taken}
-use Rattle.probe.specs.Ways.{demands, demandsAll, Lends, LendsAll}
+use Rattle.ways.specs.Ways.{demands, demandsAll, Lends, LendsAll}
 
 -- ---- agreeing, atom by atom
 

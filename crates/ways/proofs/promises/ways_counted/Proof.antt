@@ -1,7 +1,7 @@
 -- The promise is a law of proofs/Settling.antt.
-use Rattle.probe.proofs.Settling.{ways-counted}
-use Rattle.probe.proofs.promises.ways_counted.Statement.{statement}
-use Rattle.probe.proofs.promises.ways_counted.Tie as tie
+use Rattle.ways.proofs.Settling.{ways-counted}
+use Rattle.ways.proofs.promises.ways_counted.Statement.{statement}
+use Rattle.ways.proofs.promises.ways_counted.Tie as tie
 
 returns : tie.Need-returns
 returns c = ways-counted

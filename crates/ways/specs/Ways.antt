@@ -18,7 +18,8 @@ use Rattle.region.specs.Calls.{accepted, holdOf, cutOf}
 use Rattle.inspect.specs.Inspect.{stepNumber, inspectOf}
 use Rattle.inspect.specs.Promises.{filledBy}
 use Rattle.inspect.specs.Run.{Call, hold, cut, inspect, State, begins, step, after}
 use Rattle.probe.specs.Probe.{probeOf}
+use Rattle.probe.specs.declared.Probed.{Probed}
 
 -- "over any accepted rows and exact tables": a row over n atoms, or a table by the atoms that it names and its words.
 pub data Part : Type 0 where
@@ -79,16 +80,27 @@ LendsAll p st (c ∷ cs) = Lends p st c × LendsAll p (step st c) cs
 abbrev pub way : List Part → State → List Call → Assignment → Bool
 way parts st cs x = meetsParts parts x && demandsAll st cs x
 
+-- "One preparation fills the buffers from those rows and tables and returns the system": what is handed in, the memory lent to preparation,
+-- and the calls. (The rows handed in stand last first.)
+abbrev pub Setting : ℕ → ℕ → List Part → Lent → List Call → Type 0
+Setting n m parts l cs =
+    let p = prepareOf n m l in
+    FitParts n parts × (handedIn n m l ≡ reverse (allRows n parts)) × (p .0 .number ≡ 0) × LendsAll p (begins n) cs
+
+-- The probe after the calls, over what preparation left.
+abbrev pub probedAfter : ℕ → ℕ → Lent → List Call → Probed
+probedAfter n m l cs =
+    let p = prepareOf n m l in
+    probeOf (p .0 .system) (p .1 .rows) (p .1 .constants) (p .1 .basis) (after (begins n) cs .region)
+
 -- Demand 3: "The ways to settle all measures number exactly 2^(u - k) when the probe says yes, and 0 exactly when it says no. This holds after
 -- every list of hold, cut and inspect calls, refused ones included, from an undecided region and fresh knowledge, over any accepted rows and
--- exact tables. .. One preparation fills the buffers from those rows and tables and returns the system". (The rows handed in stand last first.)
+-- exact tables." In this setting the probe is never refused.
 abbrev pub WaysCounted : Type 0
-WaysCounted = (n m : ℕ) (parts : List Part) (l : Lent) (cs : List Call)
-    → let p = prepareOf n m l in
-    let st = after (begins n) cs in
-    let q = probeOf (p .0 .system) (p .1 .rows) (p .1 .constants) (p .1 .basis) (st .region) in
-    FitParts n parts → handedIn n m l ≡ reverse (allRows n parts) → p .0 .number ≡ 0 → LendsAll p (begins n) cs
-    → (q .number ≡ 0)
-    × (q .undecided ≡ undecided (decisions (st .region)))
-    × (q .yes ≡ true → (q .kept ≤ q .undecided) × (count n (way parts (begins n) cs) ≡ 2 ^ (q .undecided - q .kept)))
-    × (q .yes ≡ false → count n (way parts (begins n) cs) ≡ 0)
+WaysCounted = (n m : ℕ) (parts : List Part) (l : Lent) (cs : List Call) → Setting n m parts l cs
+    → let q = probedAfter n m l cs in
+    let ways = count n (way parts (begins n) cs) in
+    (q .number ≡ 0)
+    × (q .undecided ≡ undecided (decisions (after (begins n) cs .region)))
+    × (q .yes ≡ true → (q .kept ≤ q .undecided) × (ways ≡ 2 ^ (q .undecided - q .kept)))
+    × (q .yes ≡ false → ways ≡ 0)

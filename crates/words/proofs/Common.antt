@@ -24,20 +24,20 @@ and-take k (x ∷ l) (y ∷ r) =
 abbrev pub common : List ℕ → List ℕ → List ℕ
 common l r = zipWith bitAnd l r
 
-common-length : (l r : List ℕ) → length l ≤ length r → length (common l r) ≡ length l
+pub common-length : (l r : List ℕ) → length l ≤ length r → length (common l r) ≡ length l
 unfolding zipWith
 common-length [] r h = refl
 common-length (x ∷ l) [] h = let z : ⊥ = omega arith in absurd z
 common-length (x ∷ l) (y ∷ r) h = ap suc (common-length l r (omega arith))
 
-common-at : (l r : List ℕ) (i : ℕ) → length l ≤ length r → i < length l → getD (common l r) i 0 ≡ bitAnd (getD l i 0) (getD r i 0)
+pub common-at : (l r : List ℕ) (i : ℕ) → length l ≤ length r → i < length l → getD (common l r) i 0 ≡ bitAnd (getD l i 0) (getD r i 0)
 unfolding zipWith
 common-at [] r i h b = let z : ⊥ = omega arith in absurd z
 common-at (x ∷ l) [] i h b = let z : ⊥ = omega arith in absurd z
 common-at (x ∷ l) (y ∷ r) zero h b = refl
 common-at (x ∷ l) (y ∷ r) (suc i) h b = common-at l r i (omega arith) (omega arith)
 
-common-set : (k : ℕ) (l r : List ℕ) → length l ≤ length r → packed k (common l r) ≡ bitAnd (packed k l) (packed k r)
+pub common-set : (k : ℕ) (l r : List ℕ) → length l ≤ length r → packed k (common l r) ≡ bitAnd (packed k l) (packed k r)
 unfolding packed zipWith
 common-set k [] r h = refl
 common-set k (x ∷ l) [] h = let z : ⊥ = omega arith in absurd z

@@ -1,0 +1,3 @@
+-- What the contracts of `ways` cite, in the order to read it.
+pub mod Ways
+pub mod Instances
