@@ -49,11 +49,13 @@ pub record Upto (n : ℕ) (p : Decisions) (rs : List Row) (pv kept : List ℕ) (
 abbrev pub Running : (n : ℕ) (held free : List ℕ) (rs : List Row) (pv kept : List ℕ) (cs : List Bool) (count j : ℕ) → Type 0
 Running n held free rs pv kept cs count j = (p : Decisions) → Masked n p held free → Upto n p rs pv kept cs count j
 
-pub running-start : (n : ℕ) (held free : List ℕ) (rs : List Row) (pv kept : List ℕ) (cs : List Bool) → setOf pv ≡ 0 → Running n held free rs pv kept cs 0 0
+pub running-start : (n : ℕ) (held free : List ℕ) (rs : List Row) (pv kept : List ℕ) (cs : List Bool) → setOf pv ≡ 0 → n ≤ length cs
+    → Running n held free rs pv kept cs 0 0
 unfolding keptFrom
-running-start n held free rs pv kept cs none p masked = record {
+running-start n held free rs pv kept cs none places p masked = record {
   sound = refl;
   stored = record {
+    places = places;
     sized = tt;
     taken = λ a h. absurd (false≢true (sym (ap (λ (x : ℕ). has x a) none ∙ has-none a) ∙ h));
     marked = λ k h. absurd h;

@@ -7,7 +7,7 @@ use mathlib.Core.Logic.{inl, inr}
 use native.Mathlib.Nat.{add-zero}
 use native.Mathlib.Numerals.{add-one}
 use native.Mathlib.Omega.{arith}
-use borrow.Author.Tests.{eqb-true, eqb-false, eq-eqb, ltb-true, ltb-false, leb-false, lt-leb}
+use borrow.Author.Tests.{eqb-true, eqb-false, eq-eqb, ltb-true, ltb-false, leb-false, le-leb, lt-leb}
 use lib.ListN.{length, getD, take, drop, set, length-set}
 use lib.Seq.{paste, paste-zero, paste-suc, take-all, getD-set-same, getD-set-other}
 use lib.Arith.{lt-of-le-ne}
@@ -27,7 +27,7 @@ use Rattle.echelon.proofs.Lows.{some-atom, empty-none}
 use Rattle.echelon.proofs.Replaced.{row-kept, row-past, put-row, put-only}
 use Rattle.parity.proofs.Single.{low-atoms}
 use Rattle.region.specs.Masks.{nextOf}
-use Rattle.region.proofs.Nexts.{next-first, eight-below}
+use Rattle.region.proofs.Nexts.{next-first}
 use Rattle.probe.specs.Elimination.{reducedBy, Kept, keeps}
 use Rattle.probe.specs.declared.eliminate.Fate.{Fate}
 use Rattle.probe.specs.Steps.{asRow, Opened, Among, Room, Taken, Stored, Reduced, fateOf, pivotsWith, keptWith, constantsWith, Stepped, Becomes}
@@ -82,7 +82,7 @@ module _ (n : ℕ) (ks : List Row) (left : List ℕ) (c : Bool) (pv kept : List 
   abbrev s : Row
   s = asRow n x c
 
-  module _ (a : ℕ) (below : a < 512) where
+  module _ (a : ℕ) (below : a < length cs) where
     fits-in : a * 8 + 8 ≤ length kept
     fits-in = omega (arith, room .rows)
 
@@ -94,7 +94,7 @@ module _ (n : ℕ) (ks : List Row) (left : List ℕ) (c : Bool) (pv kept : List 
     own-row = put-row 8 a kept fits-in left wide
 
     own-constant : getD (set cs a c) a false ≡ c
-    own-constant = getD-set-same cs a c false (omega (arith, room .constants))
+    own-constant = getD-set-same cs a c false below
 
     -- other places are as they were
     other-row : (b : ℕ) → (b ≡ a → ⊥) → row 8 kept′ b ≡ row 8 kept b
@@ -108,7 +108,7 @@ module _ (n : ℕ) (ks : List Row) (left : List ℕ) (c : Bool) (pv kept : List 
 
     module _ (stored : Stored n ks pv kept cs) (fits : x < 2 ^ n) (own : has x a ≡ true) (none : (b : ℕ) → b < a → has x b ≡ false) (lowest : low (atomsOf n x) ≡ a) where
       named : (b : ℕ) → has (setOf (inserted pv a)) b ≡ (has (setOf pv) b || eqb b a)
-      named b = insert-adds pv a .0 (omega (arith, room .pivots)) b
+      named b = insert-adds pv a .0 (omega (arith, room .pivots, room .few)) b
 
       taken-own : Taken n (s ∷ ks) kept′ (set cs a c) a
       taken-own = record {
@@ -145,16 +145,21 @@ module _ (n : ℕ) (ks : List Row) (left : List ℕ) (c : Bool) (pv kept : List 
 
       stored-more : Stored n (s ∷ ks) (inserted pv a) (put 8 a kept left) (set cs a c)
       unfolding kept′
-      stored-more = record { sized = (atoms-length n x, stored .sized); taken = taken-at; marked = marked-at }
+      stored-more = record {
+        places = omega (arith, length-set cs a c, stored .places);
+        sized = (atoms-length n x, stored .sized);
+        taken = taken-at;
+        marked = marked-at;
+      }
 
   -- ---- by the row's lowest atom
 
   by : {t : Bool} → empty (atomsOf n x) ≡ t → keeps ks s ≡ cond t (record { rows = ks; sound = not c }) (record { rows = s ∷ ks; sound = true })
   by f = ap (λ (t : Bool). cond {A = Kept} t (record { rows = ks; sound = not c }) (record { rows = s ∷ ks; sound = true })) f
 
-  stepped-by : (a : ℕ) (t : Bool) → leb 512 a ≡ t → empty (atomsOf n x) ≡ t → Stored n ks pv kept cs
+  stepped-by : (a : ℕ) (t : Bool) → leb (length cs) a ≡ t → empty (atomsOf n x) ≡ t → Stored n ks pv kept cs
       → (t ≡ false → Stored n (s ∷ ks) (inserted pv a) (put 8 a kept left) (set cs a c))
-      → Stepped n ks s (fateOf a c) (pivotsWith a pv) (keptWith a left kept) (constantsWith a c cs)
+      → Stepped n ks s (fateOf (length cs) a c) (pivotsWith (length cs) a pv) (keptWith (length cs) a left kept) (constantsWith a c cs)
   stepped-by a true e f stored more =
       let left-is : keeps ks s ≡ record { rows = ks; sound = not c } = by f in
       rw e (record {
@@ -171,44 +176,45 @@ module _ (n : ℕ) (ks : List Row) (left : List ℕ) (c : Bool) (pv kept : List 
       })
 
   stepped : Stored n ks pv kept cs → x < 2 ^ n
-      → let a = nextOf x 0 in Stepped n ks s (fateOf a c) (pivotsWith a pv) (keptWith a left kept) (constantsWith a c cs)
+      → let a = nextOf x 0 in Stepped n ks s (fateOf (length cs) a c) (pivotsWith (length cs) a pv) (keptWith (length cs) a left kept) (constantsWith a c cs)
   stepped stored fits = rw (next-first x) (go (eqb x 0) refl)
     where
       go : (t : Bool) → eqb x 0 ≡ t
-          → let a = cond t 512 (words.low x) in Stepped n ks s (fateOf a c) (pivotsWith a pv) (keptWith a left kept) (constantsWith a c cs)
+          → let a = cond t 512 (words.low x) in Stepped n ks s (fateOf (length cs) a c) (pivotsWith (length cs) a pv) (keptWith (length cs) a left kept) (constantsWith a c cs)
       go true e =
           let none : (b : ℕ) → getD (atomsOf n x) b false ≡ false = λ b. atoms-none n x b (ap (λ (y : ℕ). has y b) (eqb-true x 0 e) ∙ has-none b) in
-          stepped-by 512 true refl (empty-none s none) stored (λ f. absurd (true≢false f))
+          stepped-by 512 true (le-leb (length cs) 512 (room .few)) (empty-none s none) stored (λ f. absurd (true≢false f))
       go false e =
           let some : 0 < x = omega (arith, eqb-false x 0 e) in
           let first = low-lowest x some in
           let a = words.low x in
           let lt : a < n = has-below n x a fits (first .0) in
-          let below : a < 512 = has-below 512 x a (eight-below left wide) (first .0) in
-          stepped-by a false (lt-leb 512 a below) (some-atom (atomsOf n x) a (atoms-has n x a lt ∙ first .0)) stored
+          let below : a < length cs = omega (arith, stored .places) in
+          stepped-by a false (lt-leb (length cs) a below) (some-atom (atomsOf n x) a (atoms-has n x a lt ∙ first .0)) stored
           (λ f. stored-more a below stored fits (first .0) (first .1) (low-atoms n x some fits))
 
   -- ---- its room
 
-  stays : (a : ℕ) → Room (pivotsWith a pv) (keptWith a left kept) (constantsWith a c cs)
-  stays a = go (leb 512 a) refl
+  stays : (a : ℕ) → Room (pivotsWith (length cs) a pv) (keptWith (length cs) a left kept) (constantsWith a c cs)
+  stays a = go (leb (length cs) a) refl
     where
-      go : (t : Bool) → leb 512 a ≡ t → Room (cond t pv (inserted pv a)) (cond t kept (put 8 a kept left)) (cond t cs (set cs a c))
+      go : (t : Bool) → leb (length cs) a ≡ t → Room (cond t pv (inserted pv a)) (cond t kept (put 8 a kept left)) (cond t cs (set cs a c))
       go true e = room
       go false e =
-          let below : a < 512 = leb-false 512 a e in
+          let below : a < length cs = leb-false (length cs) a e in
+          let same = length-set cs a c in
           record {
             pivots = length-inserted pv a ∙ room .pivots;
-            rows = put-only 8 a kept (fits-in a below) left wide [] 0 .words ∙ room .rows;
-            constants = length-set cs a c ∙ room .constants;
+            rows = omega (arith, put-only 8 a kept (fits-in a below) left wide [] 0 .words, room .rows);
+            few = omega (arith, room .few);
           }
 
 -- ---- a row taken out, reduced and kept
 
 module _ (n : ℕ) (held free : List ℕ) (r : Row) (pv kept : List ℕ) (cs : List Bool) (left₁ : List ℕ) (c₁ : Bool) (left₂ : List ℕ) (c₂ : Bool)
     (wide : length left₂ ≡ 8) (room : Room pv kept cs) (opened : Opened n r held free left₁ c₁) (reduced : Reduced pv kept cs left₁ c₁ left₂ c₂)
-    (fate : Fate) (pv′ kept′ : List ℕ) (cs′ : List Bool) (fate-is : fate ≡ fateOf (nextOf (setOf left₂) 0) c₂)
-    (pv-is : pv′ ≡ pivotsWith (nextOf (setOf left₂) 0) pv) (kept-is : kept′ ≡ keptWith (nextOf (setOf left₂) 0) left₂ kept)
+    (fate : Fate) (pv′ kept′ : List ℕ) (cs′ : List Bool) (fate-is : fate ≡ fateOf (length cs) (nextOf (setOf left₂) 0) c₂)
+    (pv-is : pv′ ≡ pivotsWith (length cs) (nextOf (setOf left₂) 0) pv) (kept-is : kept′ ≡ keptWith (length cs) (nextOf (setOf left₂) 0) left₂ kept)
     (cs-is : cs′ ≡ constantsWith (nextOf (setOf left₂) 0) c₂ cs) where
   becomes : Becomes n held free r pv kept cs fate pv′ kept′ cs′
   becomes p ks masked form stored =
@@ -216,7 +222,7 @@ module _ (n : ℕ) (held free : List ℕ) (r : Row) (pv kept : List ℕ) (cs : L
       let is = left .1 ∙ ap (reducedBy ks) (opened .row p masked) in
       let a = nextOf (setOf left₂) 0 in
       rw (fate-is, pv-is, kept-is, cs-is)
-      (subst (λ (s : Row). Stepped n ks s (fateOf a c₂) (pivotsWith a pv) (keptWith a left₂ kept) (constantsWith a c₂ cs)) is
+      (subst (λ (s : Row). Stepped n ks s (fateOf (length cs) a c₂) (pivotsWith (length cs) a pv) (keptWith (length cs) a left₂ kept) (constantsWith a c₂ cs)) is
       (stepped n ks left₂ c₂ pv kept cs wide room stored (left .0)))
 
   keeps-room : Room pv′ kept′ cs′
@@ -227,7 +233,7 @@ module _ (n : ℕ) (held free : List ℕ) (r : Row) (pv kept : List ℕ) (cs : L
   few-by false c = omega arith
 
   few : fate .kept ≤ 1
-  few = rw fate-is (few-by (leb 512 (nextOf (setOf left₂) 0)) c₂)
+  few = rw fate-is (few-by (leb (length cs) (nextOf (setOf left₂) 0)) c₂)
 
   pub taken : (fate .kept ≤ 1) × Room pv′ kept′ cs′ × Becomes n held free r pv kept cs fate pv′ kept′ cs′
   taken = (few, keeps-room, becomes)

@@ -26,45 +26,48 @@ use Rattle.rows.proofs.Rowwise.{has-below, atoms-none}
 use Rattle.echelon.specs.Forward.{low}
 use Rattle.echelon.proofs.Reducing.{each-long}
 use Rattle.region.specs.Masks.{nextOf}
-use Rattle.region.proofs.Nexts.{next-from, next-found, next-passed, eight-below}
+use Rattle.region.proofs.Nexts.{next-found, next-passed}
 use Rattle.probe.specs.Elimination.{reducedBy}
-use Rattle.probe.specs.Steps.{asRow, placed, pivots, Among, Taken, Stored, Reduced}
+use Rattle.probe.specs.Steps.{asRow, placed, pivots, Among, Room, Taken, Stored, Reduced}
 use Rattle.probe.proofs.Canonical.{reduced-none, reduced-same}
 
 -- the row's words and constant on the way from left₀ and c₀, atom a being the lowest that it has in common with the pivots
-pub record Turn (n : ℕ) (ks : List Row) (pv left₀ : List ℕ) (c₀ : Bool) (left : List ℕ) (c : Bool) (a : ℕ) : Type 0 where
+pub record Turn (n places : ℕ) (ks : List Row) (pv left₀ : List ℕ) (c₀ : Bool) (left : List ℕ) (c : Bool) (a : ℕ) : Type 0 where
   pub fits : setOf left < 2 ^ n
   pub same : reducedBy ks (asRow n (setOf left) c) ≡ reducedBy ks (asRow n (setOf left₀) c₀)
   pub passed : (b : ℕ) → b < a → has (bitAnd (setOf left) (setOf pv)) b ≡ false
-  pub found : a < 512 → has (bitAnd (setOf left) (setOf pv)) a ≡ true
+  pub found : a < places → has (bitAnd (setOf left) (setOf pv)) a ≡ true
 
 -- for all rows that the memory may hold
 abbrev pub Turning : (pv kept : List ℕ) (cs : List Bool) (left₀ : List ℕ) (c₀ : Bool) (left : List ℕ) (c : Bool) (a : ℕ) → Type 0
 Turning pv kept cs left₀ c₀ left c a =
     (n : ℕ) (p : Decisions) (ks : List Row) → Triangular p (pivots ks) ks → Stored n ks pv kept cs → setOf left₀ < 2 ^ n
-    → Turn n ks pv left₀ c₀ left c a
+    → Turn n (length cs) ks pv left₀ c₀ left c a
 
-pub turning-start : (pv kept : List ℕ) (cs : List Bool) (left : List ℕ) (c : Bool) (a : ℕ) → a ≡ nextOf (bitAnd (setOf left) (setOf pv)) 0
+pub turning-start : (pv kept : List ℕ) (cs : List Bool) (left : List ℕ) (c : Bool) (a : ℕ) → Room pv kept cs → a ≡ nextOf (bitAnd (setOf left) (setOf pv)) 0
     → Turning pv kept cs left c left c a
-turning-start pv kept cs left c a is n p ks form stored fits =
+turning-start pv kept cs left c a room is n p ks form stored fits =
     let x = bitAnd (setOf left) (setOf pv) in
     record {
       fits = fits;
       same = refl;
       passed = λ b h. next-passed x 0 b (omega arith) (omega arith);
-      found = λ h. rw is (next-found x 0 (omega arith) .1);
+      found = λ h. rw is (next-found x 0 (omega (arith, room .few)) .1);
     }
 
 -- ---- one row added
 
 module _ (pv kept : List ℕ) (cs : List Bool) (left₀ : List ℕ) (c₀ : Bool) (left : List ℕ) (c : Bool) (a : ℕ) (turning : Turning pv kept cs left₀ c₀ left c a)
-    (wide : length left ≡ 8) (room : length kept ≡ 4096) (below : a < 512) where
+    (wide : length left ≡ 8) (room : Room pv kept cs) (below : a < length cs) where
+  inside : a * 8 + 8 ≤ length kept
+  inside = omega (arith, room .rows)
+
   part-is : partOf 8 kept a ≡ row 8 kept a
   unfolding partOf
-  part-is = ap (λ (t : Bool). cond t (row 8 kept a) []) (le-leb (a * 8 + 8) (length kept) (omega arith))
+  part-is = ap (λ (t : Bool). cond t (row 8 kept a) []) (le-leb (a * 8 + 8) (length kept) inside)
 
   source-length : length (row 8 kept a) ≡ 8
-  source-length = row-length 8 kept a (omega arith)
+  source-length = row-length 8 kept a inside
 
   module _ (part left′ : List ℕ) (is : part ≡ partOf 8 kept a) (sum : left′ ≡ merged bitXor left part) where
     pub part-length : length part ≡ 8
@@ -82,7 +85,7 @@ module _ (pv kept : List ℕ) (cs : List Bool) (left₀ : List ℕ) (c₀ : Bool
     sum-is n =
         ap (λ (l : List Bool). record { atoms = l; constant = c′ }) (ap (atomsOf n) set-sum ∙ atoms-xor n (setOf left) (setOf (row 8 kept a)))
 
-    module _ (n : ℕ) (ks : List Row) (turn : Turn n ks pv left₀ c₀ left c a) (taken : Taken n ks kept cs a) where
+    module _ (n : ℕ) (ks : List Row) (turn : Turn n (length cs) ks pv left₀ c₀ left c a) (taken : Taken n ks kept cs a) where
       abbrev x : ℕ
       x = setOf left
 
@@ -113,14 +116,14 @@ module _ (pv kept : List ℕ) (cs : List Bool) (left₀ : List ℕ) (c₀ : Bool
             go true e = cleared b (omega (arith, ltb-true b (a + 1) e))
             go false e = next-passed (bitAnd (setOf left′) (setOf pv)) (a + 1) b (ltb-false b (a + 1) e) (omega arith)
 
-        turn-next : (p : Decisions) → Triangular p (pivots ks) ks → Stored n ks pv kept cs → Turn n ks pv left₀ c₀ left′ c′ a′
+        turn-next : (p : Decisions) → Triangular p (pivots ks) ks → Stored n ks pv kept cs → Turn n (length cs) ks pv left₀ c₀ left′ c′ a′
         turn-next p form stored = record {
           fits = rw set-sum (xor-lt n x k (turn .fits) (taken .fits));
           same =
               ap (reducedBy ks) (sum-is n)
               ∙ reduced-same n p ks (asRow n x c) (placed n kept cs a) form (each-long n ks (stored .sized)) (atoms-length n x) (taken .among) ∙ turn .same;
           passed = passed-next;
-          found = λ h. rw next (next-found (bitAnd (setOf left′) (setOf pv)) (a + 1) (omega arith) .1);
+          found = λ h. rw next (next-found (bitAnd (setOf left′) (setOf pv)) (a + 1) (omega (arith, room .few)) .1);
         }
 
     pub turning-next : (a′ : ℕ) → a′ ≡ nextOf (bitAnd (setOf left′) (setOf pv)) (a + 1) → Turning pv kept cs left₀ c₀ left′ c′ a′
@@ -137,11 +140,12 @@ lacks n pv x c [] none marked = tt
 lacks n pv x c (k ∷ ks) none marked =
     (atoms-none n x (low (k .atoms)) (none (low (k .atoms)) (marked k (inl refl))), lacks n pv x c ks none (λ j h. marked j (inr h)))
 
-pub turning-end : (pv kept : List ℕ) (cs : List Bool) (left₀ : List ℕ) (c₀ : Bool) (left : List ℕ) (c : Bool) (a : ℕ) → length pv ≡ 8 → 512 ≤ a
+pub turning-end : (pv kept : List ℕ) (cs : List Bool) (left₀ : List ℕ) (c₀ : Bool) (left : List ℕ) (c : Bool) (a : ℕ) → length cs ≤ a
     → Turning pv kept cs left₀ c₀ left c a → Reduced pv kept cs left₀ c₀ left c
-turning-end pv kept cs left₀ c₀ left c a eight done turning n p ks form stored fits =
+turning-end pv kept cs left₀ c₀ left c a done turning n p ks form stored fits =
     let turn = turning n p ks form stored fits in
     let none : (b : ℕ) → has (setOf pv) b ≡ true → has (setOf left) b ≡ false = λ b h.
-    let lt : b < a = omega (arith, has-below 512 (setOf pv) b (eight-below pv eight) h) in
+    let here = stored .taken b h in
+    let lt : b < a = omega (arith, has-below n (setOf (row 8 kept b)) b (here .fits) (here .own), stored .places) in
     sym (ap (λ (t : Bool). has (setOf left) b && t) h ∙ and-true (has (setOf left) b)) ∙ sym (has-and (setOf left) (setOf pv) b) ∙ turn .passed b lt in
     (turn .fits, sym (reduced-none ks (asRow n (setOf left) c) (lacks n pv (setOf left) c ks none (stored .marked))) ∙ turn .same)

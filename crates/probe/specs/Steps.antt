@@ -1,5 +1,5 @@
 -- What the private functions of `probe` ask and leave, for their contracts alone: no reader has to believe it, since `probe` asks nothing.
-use Prim.Native.Nat.{ℕ, _+_, _^_, _<_}
+use Prim.Native.Nat.{ℕ, _+_, _*_, _^_, _≤_, _<_}
 use mathlib.Core.Path.{_≡_}
 use mathlib.Core.List.{List, [], _∷_, map}
 use mathlib.Core.Bool.{Bool, true, false, cond, not}
@@ -45,11 +45,11 @@ abbrev pub Among : Row → List Row → Type 0
 Among k [] = ⊥
 Among k (j ∷ js) = (k ≡ j) ⊎ Among k js
 
--- The memory: the mask of pivots, and a place of eight words with a constant for each atom.
+-- The memory: the mask of pivots, and places of eight words with a constant each.
 pub record Room (pv kept : List ℕ) (cs : List Bool) : Type 0 where
   pub pivots : length pv ≡ 8
-  pub rows : length kept ≡ 4096
-  pub constants : length cs ≡ 512
+  pub rows : length kept ≡ length cs * 8
+  pub few : length cs ≤ 512
 
 -- The row at place a of the memory.
 abbrev pub placed : ℕ → List ℕ → List Bool → ℕ → Row
@@ -64,6 +64,7 @@ pub record Taken (n : ℕ) (ks : List Row) (kept : List ℕ) (cs : List Bool) (a
 
 -- The mask of pivots names the places taken, and the lowest atoms of all rows kept.
 pub record Stored (n : ℕ) (ks : List Row) (pv kept : List ℕ) (cs : List Bool) : Type 0 where
+  pub places : n ≤ length cs
   pub sized : Sized n ks
   pub taken : (a : ℕ) → has (setOf pv) a ≡ true → Taken n ks kept cs a
   pub marked : (k : Row) → Among k ks → has (setOf pv) (low (k .atoms)) ≡ true
@@ -74,18 +75,18 @@ Reduced pv kept cs left c left′ c′ =
     (n : ℕ) (p : Decisions) (ks : List Row) → Triangular p (pivots ks) ks → Stored n ks pv kept cs → setOf left < 2 ^ n
     → (setOf left′ < 2 ^ n) × (asRow n (setOf left′) c′ ≡ reducedBy ks (asRow n (setOf left) c))
 
--- What `keep` makes of a row by its lowest atom, 512 where it has none: its fate, the pivots, and the memory.
-abbrev pub fateOf : ℕ → Bool → Fate
-fateOf a c = cond (leb 512 a) (record { kept = 0; sound = not c }) (record { kept = 1; sound = true })
+-- What `keep` makes of a row by its lowest atom, which has no place where it has none: its fate, the pivots, and the memory.
+abbrev pub fateOf : ℕ → ℕ → Bool → Fate
+fateOf places a c = cond (leb places a) (record { kept = 0; sound = not c }) (record { kept = 1; sound = true })
 
-abbrev pub pivotsWith : ℕ → List ℕ → List ℕ
-pivotsWith a pv = cond (leb 512 a) pv (inserted pv a)
+abbrev pub pivotsWith : ℕ → ℕ → List ℕ → List ℕ
+pivotsWith places a pv = cond (leb places a) pv (inserted pv a)
 
-abbrev pub keptWith : ℕ → List ℕ → List ℕ → List ℕ
-keptWith a left kept = cond (leb 512 a) kept (put 8 a kept left)
+abbrev pub keptWith : ℕ → ℕ → List ℕ → List ℕ → List ℕ
+keptWith places a left kept = cond (leb places a) kept (put 8 a kept left)
 
 abbrev pub constantsWith : ℕ → Bool → List Bool → List Bool
-constantsWith a c cs = cond (leb 512 a) cs (set cs a c)
+constantsWith a c cs = cond (leb (length cs) a) cs (set cs a c)
 
 -- What becomes of the rows kept and the memory by what is left of a row, and its fate.
 pub record Stepped (n : ℕ) (ks : List Row) (s : Row) (fate : Fate) (pv kept : List ℕ) (cs : List Bool) : Type 0 where

@@ -1,13 +1,14 @@
 // Elimination over the open atoms: "Basis rows in order, decided atoms taken out, each held one flipping the constant. Each row kept so far
 // .. is added where the new row has its lowest atom."
 // A row kept stands at the place of its lowest atom, so that no lowest atom is searched again; the mask of pivots names the places taken.
+// Up to 64 atoms a smaller memory serves, which is sooner cleared.
 // Rows kept are added by rising lowest atom, which leaves the same row as document 01's order (proofs/Canonical.antt).
 use parity::System;
 use region::Region;
 use rows::Ordinal;
 use rows::Source;
 ghost use mathlib.Core.Path.{_≡_};
-ghost use Prim.Native.Nat.{_≤_, _<_};
+ghost use Prim.Native.Nat.{_+_, _*_, _≤_, _<_};
 ghost use lib.ListN.{length, getD, replicate, take};
 ghost use lib.Bits.{bitAnd};
 ghost use lib.Count.{ones};
@@ -93,7 +94,7 @@ fn reduce(
 {
     let mut odd = constant;
     let mut a = region::next_common(left, pivots, 0);
-    while a < 512 {
+    while a < constants.len() {
         words::xor_assign(left, rows::part(kept, 8, a));
         odd = odd != constants[a];
         a = region::next_common(left, pivots, a + 1);
@@ -103,7 +104,7 @@ fn reduce(
 
 // Writes a row at its place.
 fn store(kept: &mut [u64], place: usize, left: &[u64; 8])
-    requires { ⌜ (place < 512) × (length (now kept) ≡ 4096) × (length (now left) ≡ 8) ⌝ }
+    requires { ⌜ (place * 8 + 8 ≤ length (now kept)) × (length (now left) ≡ 8) ⌝ }
     ensures { λ _. ⌜ now (kept .exit) ≡ put 8 place (now (kept .entry)) (now (left .entry)) ⌝ }
 {
     let start = place * 8;
@@ -123,13 +124,13 @@ fn keep(
     constants: &mut [bool],
 ) -> Fate
     requires { ⌜ (length (now left) ≡ 8) × Room (now pivots) (now kept) (now constants) ⌝ }
-    ensures fate { λ r. ⌜ r ≡ fateOf (nextOf (setOf (now (left .entry))) 0) constant ⌝ }
-    ensures pivots { λ _. ⌜ now (pivots .exit) ≡ pivotsWith (nextOf (setOf (now (left .entry))) 0) (now (pivots .entry)) ⌝ }
-    ensures kept { λ _. ⌜ now (kept .exit) ≡ keptWith (nextOf (setOf (now (left .entry))) 0) (now (left .entry)) (now (kept .entry)) ⌝ }
+    ensures fate { λ r. ⌜ r ≡ fateOf (length (now (constants .entry))) (nextOf (setOf (now (left .entry))) 0) constant ⌝ }
+    ensures pivots { λ _. ⌜ now (pivots .exit) ≡ pivotsWith (length (now (constants .entry))) (nextOf (setOf (now (left .entry))) 0) (now (pivots .entry)) ⌝ }
+    ensures kept { λ _. ⌜ now (kept .exit) ≡ keptWith (length (now (constants .entry))) (nextOf (setOf (now (left .entry))) 0) (now (left .entry)) (now (kept .entry)) ⌝ }
     ensures constants { λ _. ⌜ now (constants .exit) ≡ constantsWith (nextOf (setOf (now (left .entry))) 0) constant (now (constants .entry)) ⌝ }
 {
     let lowest = region::next(left, 0);
-    if lowest >= 512 {
+    if lowest >= constants.len() {
         return Fate {
             kept: 0,
             sound: !constant,
@@ -217,7 +218,7 @@ fn eliminate_rows(
     kept: &mut [u64],
     kept_constants: &mut [bool],
 ) -> Eliminated
-    requires { ⌜ Named n rank (now rows) (now constants) (now basis) × (length (now free) ≡ 8) × (setOf (now pivots) ≡ 0) × Room (now pivots) (now kept) (now «kept_constants») ⌝ }
+    requires { ⌜ Named n rank (now rows) (now constants) (now basis) × (length (now free) ≡ 8) × (setOf (now pivots) ≡ 0) × Room (now pivots) (now kept) (now «kept_constants») × (n ≤ length (now «kept_constants»)) ⌝ }
     ensures { λ r. ⌜ ((p : Decisions) → Masked n p (now (held .entry)) (now (free .entry)) → r ≡ told (eliminated p (basisOf n (now (rows .entry)) (now (constants .entry)) (take rank (now (basis .entry)))))) ⌝ }
 {
     let mut count = 0;
@@ -267,6 +268,22 @@ pub fn eliminate(
     words::xor_assign(&mut free, &region.held);
     words::xor_assign(&mut free, &region.cut);
     let mut pivots = [0u64; 8];
+    if system.atoms <= 64 {
+        let mut few = [0u64; 512];
+        let mut few_constants = [false; 64];
+        return eliminate_rows(
+            system.atoms,
+            system.rank,
+            rows,
+            constants,
+            basis,
+            &held,
+            &free,
+            &mut pivots,
+            &mut few,
+            &mut few_constants,
+        );
+    }
     let mut kept = [0u64; 4096];
     let mut kept_constants = [false; 512];
     eliminate_rows(

@@ -1,6 +1,6 @@
 -- `eliminate::eliminate_rows` meets its contract: before row j the memory holds what is kept of the rows before it (`Running`).
 use Prim.Native.Nat.{_-_, _≤_}
-use mathlib.Core.Path.{_≡_, sym, ap, _∙_}
+use mathlib.Core.Path.{_≡_, refl, _∙_}
 use mathlib.Core.List.{List}
 use mathlib.Core.Bool.{not}
 use native.Mathlib.Omega.{arith}
@@ -18,7 +18,12 @@ use Rattle.probe.proofs.eliminate.eliminate_rows.Tie as tie
 
 abbrev Inv-loop : tie.InvT-loop
 Inv-loop n rank rows constants basis held free pivots₀ kept₀ kept-constants₀ count₀ j₀ pivots kept kept-constants count j =
-    (j ≤ rank) × (count ≤ j) × Room pivots kept kept-constants × Running n held free (basisOf n rows constants (take rank basis)) pivots kept kept-constants count j
+    (j ≤ rank)
+    × (count ≤ j)
+    × Room pivots kept kept-constants
+    × Running n held free (basisOf n rows constants (take rank basis)) pivots kept kept-constants count j
+    × (length kept ≡ length kept₀)
+    × (length kept-constants ≡ length kept-constants₀)
 
 abbrev μ-loop : tie.MeasureT-loop
 μ-loop n rank rows constants basis held free pivots₀ kept₀ kept-constants₀ count₀ j₀ pivots kept kept-constants count j = rank - j
@@ -30,7 +35,7 @@ loop-holds : tie.Need-loop-holds Inv-loop μ-loop
 loop-holds c =
     let start = c .before .before .before .before .before in
     let a = start .args in
-    (omega arith, omega arith, start .pre .3, running-start (a .n) (a .held .now) (a .free .now) (basis-rows start) (a .pivots .now) (a .kept .now) (a .kept-constants .now) (start .pre .2))
+    (omega arith, omega arith, start .pre .3, running-start (a .n) (a .held .now) (a .free .now) (basis-rows start) (a .pivots .now) (a .kept .now) (a .kept-constants .now) (start .pre .2) (start .pre .4), refl, refl)
 
 take-at-requires : tie.Need-take-at-requires Inv-loop μ-loop
 take-at-requires c κs =
@@ -71,14 +76,12 @@ add-count c =
 same-length : tie.Need-same-length Inv-loop μ-loop
 same-length c =
     let called = c .before .before .before .before .before .before .before in
-    let start = called .before .before .before .before .before .before .before .before .before .before .before in
-    called .take-at .ensures .1 .0 .rows ∙ sym (start .pre .3 .rows)
+    called .take-at .kept .1 .1 .1 .1 .1 .1 .1 .1 .0 ∙ called .before .before .before .before .before .loop .inv .4
 
 same-length-2 : tie.Need-same-length-2 Inv-loop μ-loop
 same-length-2 c =
     let called = c .before .before .before .before .before .before .before in
-    let start = called .before .before .before .before .before .before .before .before .before .before .before in
-    called .take-at .ensures .1 .0 .constants ∙ sym (start .pre .3 .constants)
+    called .take-at .kept .1 .1 .1 .1 .1 .1 .1 .1 .1 .0 ∙ called .before .before .before .before .before .loop .inv .5
 
 returns : tie.Need-returns Inv-loop μ-loop
 returns c =
@@ -111,19 +114,15 @@ loop-again c =
       running-next (a .n) (a .held .now) (a .free .now) (basis-rows start) (at .loop .pivots) (at .loop .kept) (at .loop .kept-constants) (at .loop .count) (at .loop .j) (first-row start)
           (at .loop .inv .3) (omega (arith, long start, turn .loop-test .taken)) (called .take-at .result) (last .0) (last .1 .0) (last .1 .1 .0) (row-taken called)
           (not-false _ (c .if1 .left)),
+      called .take-at .kept .1 .1 .1 .1 .1 .1 .1 .1 .0 ∙ at .loop .inv .4,
+      called .take-at .kept .1 .1 .1 .1 .1 .1 .1 .1 .1 .0 ∙ at .loop .inv .5,
     )
 
 same-length-3 : tie.Need-same-length-3 Inv-loop μ-loop
-same-length-3 c =
-    let at = c .before in
-    let start = at .before .before .before .before .before .before in
-    at .loop .inv .2 .rows ∙ sym (start .pre .3 .rows)
+same-length-3 c = c .before .loop .inv .4
 
 same-length-4 : tie.Need-same-length-4 Inv-loop μ-loop
-same-length-4 c =
-    let at = c .before in
-    let start = at .before .before .before .before .before .before in
-    at .loop .inv .2 .constants ∙ sym (start .pre .3 .constants)
+same-length-4 c = c .before .loop .inv .5
 
 returns-2 : tie.Need-returns-2 Inv-loop μ-loop
 returns-2 c =

@@ -3,7 +3,7 @@ use Prim.Native.Nat.{ℕ}
 use mathlib.Core.Path.{_≡_, sym, ap, _∙_}
 use mathlib.Core.Bool.{true, false}
 use borrow.Author.Tests.{le-leb, lt-leb}
-use lib.ListN.{set}
+use lib.ListN.{length, set}
 use lib.Dec.{leb}
 use Rattle.words.specs.Set.{setOf}
 use Rattle.words.specs.Calls.{inserted}
@@ -20,7 +20,7 @@ next-requires c κs = search needs
 returns : tie.Need-returns
 returns c =
     let a = c .before .before .before .before .args in
-    let none : leb 512 (nextOf (setOf (a .left .now)) 0) ≡ true = ap (leb 512) (sym (c .before .next .ensures)) ∙ le-leb _ _ (c .if1 .taken) in
+    let none : leb (length (a .constants .now)) (nextOf (setOf (a .left .now)) 0) ≡ true = ap (leb (length (a .constants .now))) (sym (c .before .next .ensures)) ∙ le-leb _ _ (c .if1 .taken) in
     (first _ _ _ none, (first _ _ _ none, (first _ _ _ none, first _ _ _ none)))
 
 store-requires : tie.Need-store-requires
@@ -44,7 +44,7 @@ returns-2 c =
     let next = stored .before .before .before in
     let a = next .before .before .before .args in
     let low = next .next .ensures in
-    let some : leb 512 (nextOf (setOf (a .left .now)) 0) ≡ false = ap (leb 512) (sym low) ∙ lt-leb _ _ (stored .before .before .if1 .left) in (
+    let some : leb (length (a .constants .now)) (nextOf (setOf (a .left .now)) 0) ≡ false = ap (leb (length (a .constants .now))) (sym low) ∙ lt-leb _ _ (stored .before .before .if1 .left) in (
       second _ _ _ some,
       (
         c .insert .ensures .1 ∙ ap (inserted (a .pivots .now)) low ∙ second _ _ _ some,

@@ -24,7 +24,7 @@ loop-holds : tie.Need-loop-holds Inv-loop μ-loop
 loop-holds c =
     let start = c .before .before .before .before in
     let a = start .args in
-    (start .pre .0, turning-start (a .pivots .now) (a .kept .now) (a .constants .now) (a .left .now) (a .constant) (c .next-common .result) (c .next-common .ensures))
+    (start .pre .0, turning-start (a .pivots .now) (a .kept .now) (a .constants .now) (a .left .now) (a .constant) (c .next-common .result) (start .pre .1) (c .next-common .ensures))
 
 part-requires : tie.Need-part-requires Inv-loop μ-loop
 part-requires c κs = search needs
@@ -33,9 +33,7 @@ xor-assign-requires : tie.Need-xor-assign-requires Inv-loop μ-loop
 xor-assign-requires c κs = search needs
 
 shared-slice-read-odd : tie.Need-shared-slice-read-odd Inv-loop μ-loop
-shared-slice-read-odd c =
-    let turn = c .before .before .before .before in
-    omega (arith, turn .loop-test .taken, turn .before .before .before .before .before .before .pre .1 .constants)
+shared-slice-read-odd c = omega (arith, c .before .before .before .before .loop-test .taken)
 
 add-next-common : tie.Need-add-next-common Inv-loop μ-loop
 add-next-common c = search needs
@@ -50,7 +48,7 @@ loop-less c =
     let at = turn .before in
     let start = at .before .before .before .before .before in
     let x = bitAnd (setOf (added .xor-assign .last .0)) (setOf (start .args .pivots .now)) in
-    omega (arith, c .next-common2 .ensures, next-from x (at .loop .a + 1) (omega (arith, turn .loop-test .taken)), turn .loop-test .taken)
+    omega (arith, c .next-common2 .ensures, next-from x (at .loop .a + 1) (omega (arith, turn .loop-test .taken, start .pre .1 .few)), turn .loop-test .taken, start .pre .1 .few)
 
 loop-again : tie.Need-loop-again Inv-loop μ-loop
 loop-again c =
@@ -63,7 +61,7 @@ loop-again c =
     let now = added .xor-assign .last .0 in (
       added .xor-assign .kept .0 ∙ at .loop .inv .0,
       turning-next (a .pivots .now) (a .kept .now) (a .constants .now) (a .left .now) (a .constant) (at .loop .left) (at .loop .odd) (at .loop .a) (at .loop .inv .1)
-          (at .loop .inv .0) (start .pre .1 .rows) (turn .loop-test .taken) (part .part .result .now) now (part .part .ensures) (added .xor-assign .ensures .1)
+          (at .loop .inv .0) (start .pre .1) (turn .loop-test .taken) (part .part .result .now) now (part .part .ensures) (added .xor-assign .ensures .1)
           (c .next-common2 .result) (c .next-common2 .ensures),
     )
 
@@ -73,7 +71,7 @@ returns c =
     let start = at .before .before .before .before .before in
     let a = start .args in (
       at .loop .inv .0,
-      turning-end (a .pivots .now) (a .kept .now) (a .constants .now) (a .left .now) (a .constant) (at .loop .left) (at .loop .odd) (at .loop .a) (start .pre .1 .pivots) (omega arith)
+      turning-end (a .pivots .now) (a .kept .now) (a .constants .now) (a .left .now) (a .constant) (at .loop .left) (at .loop .odd) (at .loop .a) (omega arith)
           (at .loop .inv .1),
     )
 

@@ -14,14 +14,11 @@ Inv-loop kept₀ place left start i₀ kept i = Storing kept₀ start left kept 
 abbrev μ-loop : tie.MeasureT-loop
 μ-loop kept₀ place left start i₀ kept i = 8 - i
 
-room : (c : tie.Start Inv-loop μ-loop) → c .args .place * 8 + 8 ≤ length (c .args .kept .now)
-room c = omega (arith, c .pre .0, c .pre .1)
-
 mul-start : tie.Need-mul-start Inv-loop μ-loop
 mul-start c = search needs
 
 loop-holds : tie.Need-loop-holds Inv-loop μ-loop
-loop-holds c = let a = c .args in storing-start (a .kept .now) (a .place * 8) (a .left .now) (c .pre .2) (room c)
+loop-holds c = let a = c .args in storing-start (a .kept .now) (a .place * 8) (a .left .now) (c .pre .1) (c .pre .0)
 
 mul-kept : tie.Need-mul-kept Inv-loop μ-loop
 mul-kept c = search needs
@@ -30,7 +27,7 @@ element-copy-out-kept : tie.Need-element-copy-out-kept Inv-loop μ-loop
 element-copy-out-kept c = search needs
 
 add-kept : tie.Need-add-kept Inv-loop μ-loop
-add-kept c = omega (arith, c .before .before .before .pre .0)
+add-kept c = search needs
 
 mul-kept-2 : tie.Need-mul-kept-2 Inv-loop μ-loop
 mul-kept-2 c = search needs
@@ -38,7 +35,7 @@ mul-kept-2 c = search needs
 slice-write-kept : tie.Need-slice-write-kept Inv-loop μ-loop
 slice-write-kept c =
     let at = c .before .before in
-    omega (arith, at .before .pre .0, at .before .pre .1, at .loop .inv .long)
+    omega (arith, at .before .pre .0, at .loop .inv .long)
 
 add-i : tie.Need-add-i Inv-loop μ-loop
 add-i c = search needs
@@ -51,7 +48,7 @@ loop-again c =
     let at = c .before .before in
     let start = at .before in
     let a = start .args in
-    storing-next (a .kept .now) (a .place * 8) (a .left .now) (start .pre .2) (room start) (at .loop .kept) (at .loop .i) (at .loop .inv) (c .before .loop-test .taken)
+    storing-next (a .kept .now) (a .place * 8) (a .left .now) (start .pre .1) (start .pre .0) (at .loop .kept) (at .loop .i) (at .loop .inv) (c .before .loop-test .taken)
 
 same-length : tie.Need-same-length Inv-loop μ-loop
 same-length c = c .before .loop .inv .long
@@ -61,7 +58,7 @@ returns c =
     let at = c .before in
     let start = at .before in
     let a = start .args in
-    storing-end (a .kept .now) (a .place * 8) (a .left .now) (start .pre .2) (room start) (at .loop .kept) (at .loop .i) (at .loop .inv) (omega arith) (a .place) refl
+    storing-end (a .kept .now) (a .place * 8) (a .left .now) (start .pre .1) (start .pre .0) (at .loop .kept) (at .loop .i) (at .loop .inv) (omega arith) (a .place) refl
 
 pub store-spec : {M : Type 1} → statement M
 store-spec =
