@@ -1,4 +1,5 @@
-/* The calls of the library for C, proved in crates/ffi; link the archive that `rt staticlib ffi` writes.
+/* The calls of the library for C, proved in crates/ffi and, where a record or a list of entries is lent, in crates/by_ref; link the
+ * archives that `rt staticlib ffi` and `rt staticlib by_ref` write, or the one that has what is called.
  *
  * A set is an array of 64-bit words: atom a is bit a % 64 of word a / 64. Rows lie one after the other in one array: row r of
  * width w is the words r * w to r * w + w - 1, and its constant is byte r of the constants.
@@ -329,6 +330,45 @@ typedef struct {
  * their atom counts. */
 worzubil_probed worzubil_probe(worzubil_system system, const uint64_t *rows, size_t rows_length, const uint8_t *constants,
                                size_t constants_length, const size_t *basis, size_t basis_length, worzubil_region region);
+
+/* ---- knowledge and forced list where the caller keeps them; of the archive that `rt staticlib by_ref` writes */
+
+/* worzubil_publish in the very record that is passed. Its number is answered: 0, or 10, 11 or 12, and the record stays as it is.
+ * known: one record, not NULL, of which nothing else is lent to the call. */
+size_t worzubil_publish_in(worzubil_snapshot *known, worzubil_region region);
+
+/* A worzubil_inspection without the knowledge. */
+typedef struct {
+    size_t kind;
+    size_t number;
+    size_t held;
+    size_t cut;
+    size_t forced;
+    worzubil_region region;
+} worzubil_seen;
+
+/* worzubil_inspect with the knowledge in the very record that is passed: what that call would answer as `known` is what the record holds
+ * afterwards, so it stays as it is where the call is refused.
+ * known: one record, not NULL, which overlaps no buffer; the buffers are those of worzubil_inspect. */
+worzubil_seen worzubil_inspect_in(worzubil_system system, const uint64_t *rows, size_t rows_length, const uint8_t *constants,
+                                  size_t constants_length, const size_t *basis, size_t basis_length, const uint64_t *index,
+                                  size_t index_length, worzubil_region region, worzubil_snapshot *known, size_t *forced_atoms,
+                                  size_t forced_atoms_length, uint8_t *forced_values, size_t forced_values_length);
+
+/* One entry of a forced list: an atom, and the value 0 or 1 that it must have. */
+typedef struct {
+    size_t atom;
+    uint8_t value;
+} worzubil_forced;
+
+/* worzubil_inspect with one list of entries in the place of forced_atoms and forced_values.
+ * list: system.rank entries, else 9; the first `forced` of them are written, the others are not, and none is where the call is refused.
+ * The other buffers are those of worzubil_inspect. */
+worzubil_inspection worzubil_inspect_list(worzubil_system system, const uint64_t *rows, size_t rows_length,
+                                          const uint8_t *constants, size_t constants_length, const size_t *basis,
+                                          size_t basis_length, const uint64_t *index, size_t index_length,
+                                          worzubil_region region, worzubil_snapshot known, worzubil_forced *list,
+                                          size_t list_length);
 
 #ifdef __cplusplus
 }

@@ -2,6 +2,7 @@
  * A lent buffer stands between canary words: after each call all of its cells are compared. Seeded; one argument sets the rounds. */
 #include <stdio.h>
 #include <stdlib.h>
+#include <string.h>
 
 #include "worzubil.h"
 
@@ -22,8 +23,23 @@ typedef struct {
     size_t n;
 } lent_bytes;
 
+/* A lent record and a lent list of entries. */
+typedef struct {
+    uint64_t before[GUARD];
+    worzubil_snapshot known;
+    uint64_t after[GUARD];
+} lent_record;
+
+typedef struct {
+    worzubil_forced cells[GUARD + MOST + GUARD];
+    worzubil_forced old[GUARD + MOST + GUARD]; /* the same before the call */
+    size_t n;
+} lent_entries;
+
 static lent left, right, rows, mask, basis, unit_atoms, marks, forced_atoms;
 static lent_bytes constants, unit_values, forced_values;
+static lent_record record;
+static lent_entries entries;
 static bool bits[LIMIT][LIMIT]; /* of the rows, by row and atom */
 static size_t lows[LIMIT];      /* the lowest atom of each row, or n */
 static unsigned long checks, round_number;
@@ -510,6 +526,92 @@ static void of_region(worzubil_region r, worzubil_snapshot k) {
     same_known("publish", unfit == 0 ? &now : &k, &done.known);
 }
 
+static void lend_record(worzubil_snapshot k) {
+    for (size_t i = 0; i < GUARD; i++) record.before[i] = record.after[i] = CANARY;
+    record.known = k;
+}
+
+static void same_record(const char *call, const worzubil_snapshot *want) {
+    same_known(call, want, &record.known);
+    for (size_t i = 0; i < GUARD; i++) {
+        check(call, "a word before the record", CANARY, record.before[i]);
+        check(call, "a word after the record", CANARY, record.after[i]);
+    }
+}
+
+static void same_inspection(const char *call, const worzubil_inspection *want, const worzubil_inspection *got) {
+    check(call, "the kind", want->kind, got->kind);
+    check(call, "the number", want->number, got->number);
+    check(call, "held", want->held, got->held);
+    check(call, "cut", want->cut, got->cut);
+    check(call, "forced", want->forced, got->forced);
+    same_region(call, &want->region, &got->region);
+    same_known(call, &want->known, &got->known);
+}
+
+/* What an inspection only reads. */
+static void held_system(const char *call) {
+    held(call, &rows);
+    held_bytes(call, &constants);
+    held(call, &basis);
+    held(call, &marks);
+}
+
+static worzubil_inspection by_value(worzubil_system s, worzubil_region r, worzubil_snapshot k) {
+    return worzubil_inspect(s, at(&rows), rows.n, constants.cells + GUARD, constants.n, (const size_t *)at(&basis), basis.n,
+                            at(&marks), marks.n, r, k, (size_t *)at(&forced_atoms), forced_atoms.n,
+                            forced_values.cells + GUARD, forced_values.n);
+}
+
+/* The calls that write where the caller keeps it, beside those by value: publish, inspect, and inspect with a list of entries. */
+static void of_references(worzubil_system s, worzubil_region r, worzubil_snapshot k) {
+    worzubil_published done = worzubil_publish(k, r);
+    lend_record(k);
+    check("publish_in", "the number", done.number, worzubil_publish_in(&record.known, r));
+    same_record("publish_in", &done.known);
+
+    fill(&forced_atoms, about(least(s.rank, LIMIT)));
+    fill_bytes(&forced_values, about(least(s.rank, LIMIT)));
+    static lent atoms;
+    static lent_bytes values;
+    atoms = forced_atoms;
+    values = forced_values;
+    worzubil_inspection want = by_value(s, r, k);
+    lend_record(k);
+    worzubil_seen seen = worzubil_inspect_in(s, at(&rows), rows.n, constants.cells + GUARD, constants.n,
+                                             (const size_t *)at(&basis), basis.n, at(&marks), marks.n, r, &record.known,
+                                             (size_t *)at(&atoms), atoms.n, values.cells + GUARD, values.n);
+    worzubil_inspection got = {seen.kind, seen.number, seen.held, seen.cut, seen.forced, seen.region, record.known};
+    same_inspection("inspect_in", &want, &got);
+    same_record("inspect_in", &want.known);
+    held_system("inspect_in");
+    check("inspect_in", "all words of the atoms", 0, memcmp(forced_atoms.cells, atoms.cells, sizeof atoms.cells) != 0);
+    check("inspect_in", "all bytes of the values", 0, memcmp(forced_values.cells, values.cells, sizeof values.cells) != 0);
+
+    entries.n = about(least(s.rank, LIMIT)) + (below(8) ? 0 : below(LIMIT));
+    fill(&forced_atoms, entries.n);
+    fill_bytes(&forced_values, entries.n);
+    memset(entries.cells, (int)below(256), sizeof entries.cells);
+    for (size_t i = 0; i < entries.n; i++) {
+        entries.cells[GUARD + i].atom = at(&forced_atoms)[i];
+        entries.cells[GUARD + i].value = forced_values.cells[GUARD + i];
+    }
+    memcpy(entries.old, entries.cells, sizeof entries.old);
+    want = by_value(s, r, k);
+    got = worzubil_inspect_list(s, at(&rows), rows.n, constants.cells + GUARD, constants.n, (const size_t *)at(&basis), basis.n,
+                                at(&marks), marks.n, r, k, entries.cells + GUARD, entries.n);
+    same_inspection("inspect_list", &want, &got);
+    held_system("inspect_list");
+    for (size_t i = 0; i < entries.n; i++) {
+        check("inspect_list", "an atom", at(&forced_atoms)[i], entries.cells[GUARD + i].atom);
+        check("inspect_list", "a value", forced_values.cells[GUARD + i], entries.cells[GUARD + i].value);
+    }
+    size_t past = GUARD + got.forced;
+    check("inspect_list", "before the list", 0, memcmp(entries.cells, entries.old, GUARD * sizeof *entries.cells) != 0);
+    check("inspect_list", "past the forced entries", 0,
+          memcmp(entries.cells + past, entries.old + past, sizeof entries.cells - past * sizeof *entries.cells) != 0);
+}
+
 /* Touched rows and an inspection of the system that the buffers hold. */
 static void of_inspection(worzubil_system s, worzubil_region r, worzubil_snapshot k) {
     worzubil_selected got = worzubil_touched(s, at(&marks), marks.n, r, k);
@@ -522,21 +624,9 @@ static void of_inspection(worzubil_system s, worzubil_region r, worzubil_snapsho
     fill(&forced_atoms, about(least(s.rank, LIMIT)));
     fill_bytes(&forced_values, about(least(s.rank, LIMIT)));
     worzubil_inspection want = inspected(s, r, k);
-    worzubil_inspection said = worzubil_inspect(s, at(&rows), rows.n, constants.cells + GUARD, constants.n,
-                                                (const size_t *)at(&basis), basis.n, at(&marks), marks.n, r, k,
-                                                (size_t *)at(&forced_atoms), forced_atoms.n, forced_values.cells + GUARD,
-                                                forced_values.n);
-    check("inspect", "the kind", want.kind, said.kind);
-    check("inspect", "the number", want.number, said.number);
-    check("inspect", "held", want.held, said.held);
-    check("inspect", "cut", want.cut, said.cut);
-    check("inspect", "forced", want.forced, said.forced);
-    same_region("inspect", &want.region, &said.region);
-    same_known("inspect", &want.known, &said.known);
-    held("inspect", &rows);
-    held_bytes("inspect", &constants);
-    held("inspect", &basis);
-    held("inspect", &marks);
+    worzubil_inspection said = by_value(s, r, k);
+    same_inspection("inspect", &want, &said);
+    held_system("inspect");
     held("inspect", &forced_atoms);
     held_bytes("inspect", &forced_values);
 }
@@ -573,6 +663,7 @@ static void of_regions(worzubil_system s) {
     }
     of_region(r, k);
     of_inspection(s, r, k);
+    of_references(s, r, k);
 }
 
 static void of_systems(void) {
