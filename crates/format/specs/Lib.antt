@@ -1,0 +1,4 @@
+-- What the contracts of `format` cite, in the order to read it.
+pub mod Bytes
+pub mod Format
+pub mod Starts

@@ -1,0 +1,33 @@
+-- `text::put_one` meets its contract: each part is written after the one before it.
+use mathlib.Core.Path.{_∙_}
+use Rattle.text.proofs.Written.{wrote-both, wrote-length}
+use borrow.Author.Needs.{needs}
+use Rattle.text.proofs.put_one.Statement.{statement}
+use Rattle.text.proofs.put_one.Tie as tie
+
+put-requires : tie.Need-put-requires
+put-requires c κs = search needs
+
+put-decimal-requires : tie.Need-put-decimal-requires
+put-decimal-requires c κs = search needs
+
+put-requires-2 : tie.Need-put-requires-2
+put-requires-2 c κs = search needs
+
+same-length : tie.Need-same-length
+same-length c =
+    let last = c .before .before in
+    let number = last .before .before .before .before in
+    let first = number .before .before .before .before in
+    wrote-length (last .put2 .ensures) ∙ wrote-length (number .put-decimal .ensures) ∙ wrote-length (first .put .ensures)
+
+returns : tie.Need-returns
+returns c =
+    let last = c .before .before in
+    let number = last .before .before .before .before in
+    let first = number .before .before .before .before in
+    wrote-both (first .put .ensures) (wrote-both (number .put-decimal .ensures) (last .put2 .ensures))
+
+pub put-one-spec : {M : Type 1} → statement M
+put-one-spec =
+    tie.close (tie.spec put-requires put-decimal-requires put-requires-2 same-length returns)

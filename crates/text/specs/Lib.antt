@@ -1,0 +1,3 @@
+-- What the contracts of `text` cite, in the order to read it.
+pub mod Text
+pub mod Promises
