@@ -8,7 +8,7 @@ use Rattle.echelon.proofs.Solutions.{meets-append}
 use Rattle.embed.proofs.Embedded.{table-is-rows}
 use Rattle.parity.specs.Prepare.{Lent}
 use Rattle.parity.specs.Promises.{handedIn}
-use Rattle.ways.specs.Ways.{Part, row, table, FitPart, FitParts, rowsOf, allRows, meetsPart, meetsParts}
+use Rattle.embed.specs.Parts.{Part, row, table, FitPart, FitParts, rowsOf, allRows, meetsPart, meetsParts}
 
 meets-reverse : (rs : List Row) (x : Assignment) → meetsAll (reverse rs) x ≡ meetsAll rs x
 meets-reverse [] x = refl

@@ -29,7 +29,8 @@ use Rattle.inspect.proofs.Inspections.{basis-met}
 use Rattle.inspect.proofs.Runs.{unknown, Reached, after-reached, lent-fit}
 use Rattle.probe.specs.Elimination.{eliminated}
 use Rattle.probe.specs.Probe.{toldOf}
-use Rattle.ways.specs.Ways.{Part, FitParts, allRows, demandsAll, LendsAll, way, WaysCounted}
+use Rattle.embed.specs.Parts.{Part, FitParts, allRows}
+use Rattle.ways.specs.Ways.{demandsAll, LendsAll, way, WaysCounted}
 use Rattle.probe.specs.declared.Probed.{Probed}
 use Rattle.probe.proofs.Counted.{kept-few, where-true, probe-counts}
 use Rattle.ways.proofs.Handed.{handed-met}

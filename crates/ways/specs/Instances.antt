@@ -10,7 +10,8 @@ use Rattle.inspect.specs.Promises.{filledBy}
 use Rattle.inspect.specs.Run.{Call, hold, cut, inspect, begins}
 use Rattle.probe.specs.Probe.{toldOf}
 use Rattle.probe.specs.declared.Probed.{Probed}
-use Rattle.ways.specs.Ways.{Part, row, table, Setting, way, probedAfter}
+use Rattle.embed.specs.Parts.{Part, row, table}
+use Rattle.ways.specs.Ways.{Setting, way, probedAfter}
 
 -- {0,1}=1, {1,2}=0 and the table of 0 and 2 that forbids 00 and 11, over four atoms; a word lies past the rows.
 abbrev pub parts : List Part
