@@ -1,12 +1,11 @@
 -- What an inspection that no number refuses has been lent, and back: what fits is not refused.
-use Prim.Native.Nat.{ℕ, suc, _+_, _*_, _≤_, _<_, min}
+use Prim.Native.Nat.{ℕ, _*_, _≤_, _<_, min}
 use mathlib.Core.Path.{_≡_, refl, ap}
-use mathlib.Core.List.{List}
 use mathlib.Core.Bool.{Bool, true, false, not, _&&_, _||_}
 use native.Mathlib.Omega.{arith}
-use borrow.Author.Tests.{ltb-false, leb-false, eqb-true, not-true, not-false, le-ltb, lt-leb, eq-eqb}
+use borrow.Author.Tests.{ltb-false, eqb-true, not-true, not-false, le-ltb, eq-eqb}
 use lib.ListN.{length, getD}
-use lib.Dec.{leb, ltb, eqb}
+use lib.Dec.{ltb, eqb}
 use Rattle.rows.specs.Flat.{widthOf}
 use Rattle.fit.specs.Rows.{overfull, short, strays, misnames}
 use Rattle.fit.proofs.Among.{or-none}

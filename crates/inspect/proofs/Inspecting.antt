@@ -1,5 +1,5 @@
 -- `inspect` as a whole: refused with nothing touched, or what the touched rows come to.
-use Prim.Native.Nat.{ℕ, zero, suc, _≤_, _<_}
+use Prim.Native.Nat.{ℕ, zero, suc, _≤_, _<_, min}
 use mathlib.Core.Path.{_≡_, refl, sym, ap, ap₂, _∙_}
 use mathlib.Core.List.{List, [], _∷_, map, zipWith}
 use mathlib.Core.Bool.{Bool, true, false, cond, xor, _&&_, Bool·beq}
@@ -10,7 +10,7 @@ use lib.Dec.{eqb}
 use Rattle.rows.specs.Row.{Row, overlap}
 use Rattle.rows.specs.Flat.{widthOf}
 use Rattle.fit.specs.Refusal.{orRefused}
-use Rattle.fit.proofs.Fitting.{refused-is}
+use Rattle.fit.proofs.Fitting.{Fit, refused-is}
 use Rattle.echelon.specs.Forward.{low}
 use Rattle.echelon.proofs.Whole.{row-room}
 use Rattle.parity.specs.declared.System.{System}
@@ -98,23 +98,27 @@ forced-few held free (t ∷ ts) (r ∷ rs) =
 -- ---- what the parts ask
 
 -- each basis entry names a row that can be read
-pub fits-named : (s : System) (l : Filled) (r : Region) (known : Snapshot) (atoms values : ℕ) → Fits s l r known atoms values
-    → Named (s .atoms) (s .rank) (l .rows) (l .constants) (l .basis)
-fits-named s l r known atoms values fits = record {
-  ranked = omega (arith, fits .ranked, fits .lent .atoms);
-  entries = omega (arith, fits .ranked, fits .entries);
+pub named-of : (s : System) (ws cs ps : List ℕ) → Fit (s .atoms) (s .rows) ws cs → s .rank ≤ min (s .rows) (s .atoms)
+    → min (s .rows) (s .atoms) ≤ length ps → ((j : ℕ) → j < s .rank → getD ps j 0 < s .rows) → Named (s .atoms) (s .rank) ws cs ps
+named-of s ws cs ps fit ranked entries names = record {
+  ranked = omega (arith, fit .atoms);
+  entries = omega arith;
   legible = λ j h.
-      let row = getD (l .basis) j 0 in
-      let w = widthOf (s .atoms) in
-      let inside = fits .named j h in
+      let row = getD ps j 0 in
+      let inside = names j h in
       record {
-        atoms = fits .lent .atoms;
-        words = omega (arith, row-room row (s .rows) w inside, fits .lent .words);
-        constants = omega (arith, inside, fits .lent .constants);
-        below = fits .lent .clean row inside;
-        constant = fits .lent .small row inside;
+        atoms = fit .atoms;
+        words = omega (arith, row-room row (s .rows) (widthOf (s .atoms)) inside, fit .words);
+        constants = omega (arith, inside, fit .constants);
+        below = fit .clean row inside;
+        constant = fit .small row inside;
       };
 }
+
+pub fits-named : (s : System) (l : Filled) (r : Region) (known : Snapshot) (atoms values : ℕ) → Fits s l r known atoms values
+    → Named (s .atoms) (s .rank) (l .rows) (l .constants) (l .basis)
+fits-named s l r known atoms values fits =
+    named-of s (l .rows) (l .constants) (l .basis) (fits .lent) (fits .ranked) (fits .entries) (fits .named)
 
 -- a fit region is published
 pub publishes : (known : Snapshot) (r : Region) → regionUnfit r ≡ 0 → publishOf known r .known ≡ published r

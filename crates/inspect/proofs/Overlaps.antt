@@ -11,7 +11,7 @@ use lib.Count.{ones}
 use Rattle.words.specs.Set.{setOf, odd}
 use Rattle.words.specs.Calls.{narrow}
 use Rattle.rows.specs.Flat.{widthOf, row}
-use Rattle.rows.specs.Calls.{bothWithin, overlapParityOf, overlapCountOf}
+use Rattle.rows.specs.Calls.{bothWithin, overlapParityOf, isOdd, overlapCountOf}
 use Rattle.rows.specs.declared.Source.{Source}
 use Rattle.rows.specs.declared.Parity.{Parity}
 use Rattle.rows.specs.declared.Parity.the-variants as parity
@@ -63,17 +63,9 @@ module _ (n : ℕ) (ws cs : List ℕ) (s : Source) (mask : List ℕ) (fit : Legi
         is ∙ ap (λ (t : Bool). cond t (cond (odd (ones (bitAnd (setOf (row w ws (s .0))) (setOf (take w mask))))) parity.Odd parity.Even) parity.Outside) there
         ∙ ap (λ (x : ℕ). cond (odd (ones x)) parity.Odd parity.Even) all
 
-    by : (t : Bool) → c ≡ cond t parity.Odd parity.Even → (c ≡ parity.Odd → true ≡ t) × (c ≡ parity.Even → false ≡ t) × (c ≡ parity.Outside → ⊥)
-    by true e = (
-      (λ told. refl),
-      (λ told. cc),
-      (λ told. let no : _≡_ {A = ℕ} 0 1 = cc in omega arith),
-    )
-    by false e = (
-      (λ told. cc),
-      (λ told. refl),
-      (λ told. let no : _≡_ {A = ℕ} 0 1 = cc in omega arith),
-    )
+    by : (t : Bool) → isOdd (cond t parity.Odd parity.Even) ≡ t
+    by true = refl
+    by false = refl
 
-    pub odd-is : (c ≡ parity.Odd → true ≡ odd (ones shares)) × (c ≡ parity.Even → false ≡ odd (ones shares)) × (c ≡ parity.Outside → ⊥)
-    odd-is = by (odd (ones shares)) parts
+    pub odd-is : isOdd c ≡ odd (ones shares)
+    odd-is = ap isOdd parts ∙ by (odd (ones shares))

@@ -1,9 +1,9 @@
 -- What `inspect` answers and leaves in the two lists lent to it, for fit and unfit input.
-use Prim.Native.Nat.{ℕ, zero, suc, _+_, _*_, min}
+use Prim.Native.Nat.{ℕ, _+_, _*_, min}
 use mathlib.Core.List.{List, [], _∷_, _++_, map}
 use mathlib.Core.Bool.{Bool, true, false, cond, not, _&&_, _||_}
-use lib.ListN.{length, getD, take, drop}
-use lib.Dec.{leb, ltb, eqb}
+use lib.ListN.{length, take, drop}
+use lib.Dec.{ltb, eqb}
 use Rattle.rows.specs.Flat.{widthOf}
 use Rattle.fit.specs.Refusal.{refusal, orRefused}
 use Rattle.fit.specs.Rows.{short, strays, misnames}

@@ -7,7 +7,7 @@ ghost use Prim.Native.Nat.{_≤_};
 ghost use lib.ListN.{length};
 ghost use lib.Bits.{bitAnd};
 ghost use lib.Count.{ones};
-ghost use Rattle.words.specs.Set.{setOf, odd, low};
+ghost use Rattle.words.specs.Set.{setOf, low};
 ghost use Rattle.rows.specs.Flat.{widthOf, row, atomsOf, rowAt};
 ghost use Rattle.inspect.specs.Consequences.{readingOf};
 ghost use Rattle.inspect.specs.Steps.{Legible};
@@ -39,18 +39,6 @@ fn shared(n: usize, rows: &[u64], constants: &[u8], number: Source, mask: &[u64;
     }
 }
 
-// Whether a row has an odd number of a mask's atoms.
-fn shared_odd(n: usize, rows: &[u64], constants: &[u8], number: Source, mask: &[u64; 8]) -> bool
-    requires { ⌜ Legible n (now rows) (now constants) (number .0) ⌝ }
-    ensures { λ r. ⌜ r ≡ odd (ones (bitAnd (setOf (row (widthOf n) (now (rows .entry)) (number .0))) (setOf (now (mask .entry))))) ⌝ }
-{
-    match rows::overlap_parity(rows, rows::width(n), number, mask) {
-        rows::Parity::Odd => true,
-        rows::Parity::Even => false,
-        rows::Parity::Outside => false,
-    }
-}
-
 // What a row says.
 pub fn read(
     n: usize,
@@ -67,7 +55,7 @@ pub fn read(
     if open > 1 {
         return Reading::Quiet;
     }
-    let parity = shared_odd(n, rows, constants, number, held);
+    let parity = rows::overlaps_odd(rows, rows::width(n), number, held);
     let source = number.0;
     let constant = constants[source] == 1;
     if open == 1 {

@@ -1,7 +1,7 @@
 -- The order in which rows kept are added does not matter: a row with none of their lowest atoms is left as it is, and a row kept added to
 -- another leads to the same.
 use Prim.Native.Nat.{ℕ}
-use mathlib.Core.Path.{_≡_, refl, sym, ap, ap₂, _∙_}
+use mathlib.Core.Path.{_≡_, refl, sym, ap, _∙_}
 use mathlib.Core.List.{List, [], _∷_}
 use mathlib.Core.Bool.{Bool, true, false, cond, not, xor}
 use mathlib.Core.Logic.{inl, inr}

@@ -1,5 +1,5 @@
 -- The open atoms of a row: written word by word, and as a row with its decided atoms taken out.
-use Prim.Native.Nat.{ℕ, zero, suc, _+_, _/_, _%_, _^_, _≤_, _<_}
+use Prim.Native.Nat.{ℕ, zero, suc, _+_, _/_, _%_, _≤_, _<_}
 use mathlib.Core.Path.{_≡_, refl, sym, ap, ap₂, _∙_}
 use mathlib.Core.List.{List, zipWith}
 use mathlib.Core.Bool.{Bool, true, false, not, xor, _&&_, Bool·beq}

@@ -1,26 +1,25 @@
 -- `probe` as a whole: refused, refuted, or what elimination leaves.
-use Prim.Native.Nat.{ℕ, _*_, _≤_, _<_, min}
-use mathlib.Core.Path.{_≡_, refl, sym, ap, _∙_}
+use Prim.Native.Nat.{ℕ, _*_, min}
+use mathlib.Core.Path.{_≡_, sym, ap, _∙_}
 use mathlib.Core.List.{List}
 use mathlib.Core.Bool.{Bool, true, false, cond, not, _||_}
-use native.Mathlib.Omega.{arith}
 use borrow.Author.Tests.{ltb-false, eqb-true, not-false}
-use lib.ListN.{length, getD, take}
+use lib.ListN.{length, take}
 use lib.Dec.{ltb, eqb}
 use Rattle.rows.specs.Flat.{widthOf}
 use Rattle.rows.specs.Decisions.{undecided}
 use Rattle.fit.specs.Refusal.{orRefused}
 use Rattle.fit.specs.Rows.{overfull, short, strays, misnames}
 use Rattle.fit.proofs.Among.{or-none}
-use Rattle.fit.proofs.Fitting.{Fit, fit-of, passed, refused-is}
+use Rattle.fit.proofs.Fitting.{fit-of, passed, refused-is}
 use Rattle.fit.proofs.Naming.{names-each}
-use Rattle.echelon.proofs.Whole.{row-room}
 use Rattle.parity.specs.Basis.{basisOf}
 use Rattle.parity.specs.declared.System.{System}
 use Rattle.region.specs.Masks.{decisions}
 use Rattle.region.specs.Calls.{strayed, clashes, regionUnfit}
 use Rattle.region.specs.declared.Region.{Region}
 use Rattle.inspect.specs.Steps.{Named}
+use Rattle.inspect.proofs.Inspecting.{named-of}
 use Rattle.probe.specs.Elimination.{eliminated}
 use Rattle.probe.specs.Probe.{probeUnfit, toldOf, probed, probeOf}
 use Rattle.probe.specs.Steps.{told}
@@ -34,23 +33,6 @@ pub record Lent (s : System) (ws cs ps : List ℕ) (r : Region) : Type 0 where
   pub same : r .atoms ≡ s .atoms
 
 module _ (s : System) (ws cs ps : List ℕ) (r : Region) where
-  fits-named : Fit (s .atoms) (s .rows) ws cs → s .rank ≤ min (s .rows) (s .atoms) → min (s .rows) (s .atoms) ≤ length ps
-      → ((j : ℕ) → j < s .rank → getD ps j 0 < s .rows) → Named (s .atoms) (s .rank) ws cs ps
-  fits-named fit ranked entries names = record {
-    ranked = omega (arith, fit .atoms);
-    entries = omega arith;
-    legible = λ j h.
-        let row = getD ps j 0 in
-        let inside = names j h in
-        record {
-          atoms = fit .atoms;
-          words = omega (arith, row-room row (s .rows) (widthOf (s .atoms)) inside, fit .words);
-          constants = omega (arith, inside, fit .constants);
-          below = fit .clean row inside;
-          constant = fit .small row inside;
-        };
-  }
-
   unfit-lent : probeUnfit s ws cs ps r ≡ 0 → Lent s ws cs ps r
   unfolding probeUnfit regionUnfit
   unfit-lent e =
@@ -68,7 +50,7 @@ module _ (s : System) (ws cs ps : List ℕ) (r : Region) where
       let strange = or-none (strays (s .atoms) (widthOf (s .atoms)) ws cs (s .rows)) (strayed r) (stray .0) in
       record {
         named =
-            fits-named
+            named-of s ws cs ps
             (fit-of (s .atoms) (s .rows) ws cs (strange .0) (ltb-false 512 (s .atoms) (system .0)) (ltb-false 512 (s .rows) (system .1)) (ltb-false _ _ (rows .0)) (ltb-false _ _ (rows .1)))
             (ltb-false (min (s .rows) (s .atoms)) (s .rank) (rank .0)) (ltb-false _ _ (room .1)) (names-each (s .rows) ps (s .rank) (name .0));
         region = simp (limits .1, strange .1, clash .0);

@@ -1,10 +1,9 @@
 -- The basis rows one after another: the turns of `eliminate_rows`.
-use Prim.Native.Nat.{ℕ, suc, _+_, _≤_, _<_}
+use Prim.Native.Nat.{ℕ, _+_, _≤_, _<_}
 use mathlib.Core.Path.{_≡_, refl, sym, ap, ap₂, subst, _∙_}
 use mathlib.Core.List.{List, [], _∷_, _++_}
 use mathlib.Core.Bool.{Bool, true, false, cond, not, false≢true}
 use native.Mathlib.Numerals.{add-one}
-use native.Mathlib.Omega.{arith}
 use lib.ListN.{length, getD, take, drop, take-append-drop}
 use lib.Seq.{take-suc, take-all}
 use Rattle.words.specs.Set.{setOf, has}
@@ -13,7 +12,6 @@ use Rattle.rows.specs.Row.{Row}
 use Rattle.rows.specs.Decisions.{Decisions}
 use Rattle.probe.specs.Elimination.{substituted, reducedBy, Kept, keeps, step, keptFrom, eliminated}
 use Rattle.probe.specs.declared.eliminate.Fate.{Fate}
-use Rattle.probe.specs.declared.eliminate.Eliminated.{Eliminated}
 use Rattle.probe.specs.Steps.{Masked, Stored, Stepped, Becomes, told}
 use Rattle.probe.proofs.Pivoted.{kept-triangular}
 

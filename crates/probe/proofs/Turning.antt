@@ -1,6 +1,6 @@
 -- The rows kept added to a row by rising pivot: the turns of `reduce`.
 use Prim.Native.Nat.{ℕ, _+_, _*_, _^_, _≤_, _<_}
-use mathlib.Core.Path.{_≡_, refl, sym, ap, ap₂, _∙_}
+use mathlib.Core.Path.{_≡_, refl, sym, ap, _∙_}
 use mathlib.Core.List.{List, [], _∷_}
 use mathlib.Core.Bool.{Bool, true, false, cond, not, xor, _&&_, Bool·beq, and-eq-true-iff, and-true}
 use mathlib.Core.Logic.{inl, inr}
@@ -70,7 +70,7 @@ module _ (pv kept : List ℕ) (cs : List Bool) (left₀ : List ℕ) (c₀ : Bool
   source-length = row-length 8 kept a inside
 
   module _ (part left′ : List ℕ) (is : part ≡ partOf 8 kept a) (sum : left′ ≡ merged bitXor left part) where
-    pub part-length : length part ≡ 8
+    part-length : length part ≡ 8
     part-length = ap length (is ∙ part-is) ∙ source-length
 
     set-sum : setOf left′ ≡ bitXor (setOf left) (setOf (row 8 kept a))

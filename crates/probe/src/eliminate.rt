@@ -11,10 +11,9 @@ ghost use mathlib.Core.Path.{_≡_};
 ghost use Prim.Native.Nat.{_+_, _*_, _≤_, _<_};
 ghost use lib.ListN.{length, getD, replicate, take};
 ghost use lib.Bits.{bitAnd};
-ghost use lib.Count.{ones};
-ghost use Rattle.words.specs.Set.{setOf, odd};
+ghost use Rattle.words.specs.Set.{setOf};
 ghost use Rattle.rows.specs.Decisions.{Decisions};
-ghost use Rattle.rows.specs.Flat.{widthOf, row, rowAt};
+ghost use Rattle.rows.specs.Flat.{widthOf, rowAt};
 ghost use Rattle.echelon.specs.Steps.{put};
 ghost use Rattle.parity.specs.Basis.{basisOf};
 ghost use Rattle.region.specs.Masks.{decisions, nextOf};
@@ -48,18 +47,6 @@ fn open_words(left: &mut [u64; 8], words: &[u64], free: &[u64; 8])
     }
 }
 
-// Whether an odd number of a row's atoms is held.
-fn held_odd(n: usize, rows: &[u64], constants: &[u8], number: Source, held: &[u64; 8]) -> bool
-    requires { ⌜ Legible n (now rows) (now constants) (number .0) ⌝ }
-    ensures { λ r. ⌜ r ≡ odd (ones (bitAnd (setOf (row (widthOf n) (now (rows .entry)) (number .0))) (setOf (now (held .entry))))) ⌝ }
-{
-    match rows::overlap_parity(rows, rows::width(n), number, held) {
-        rows::Parity::Odd => true,
-        rows::Parity::Even => false,
-        rows::Parity::Outside => false,
-    }
-}
-
 // "decided atoms taken out, each held one flipping the constant": writes the atoms left over no atoms, and gives back the constant.
 fn substitute(
     left: &mut [u64; 8],
@@ -73,10 +60,11 @@ fn substitute(
     requires { ⌜ (now left ≡ replicate 8 0) × Legible n (now rows) (now constants) (number .0) × (length (now free) ≡ 8) ⌝ }
     ensures { λ r. ⌜ Opened n (rowAt n (widthOf n) (now (rows .entry)) (now (constants .entry)) (number .0)) (now (held .entry)) (now (free .entry)) (now (left .exit)) r ⌝ }
 {
-    open_words(left, rows::row(rows, rows::width(n), number), free);
+    let width = rows::width(n);
+    open_words(left, rows::row(rows, width, number), free);
     let source = number.0;
     let constant = constants[source] == 1;
-    let flips = held_odd(n, rows, constants, number, held);
+    let flips = rows::overlaps_odd(rows, width, number, held);
     constant != flips
 }
 

@@ -1,7 +1,7 @@
 -- What each call of `rows` answers and leaves, for rows that are there and rows that are not.
 use Prim.Native.Nat.{ℕ, _+_, _*_}
 use mathlib.Core.List.{List, [], _++_, zipWith}
-use mathlib.Core.Bool.{Bool, cond, _&&_}
+use mathlib.Core.Bool.{Bool, true, false, cond, _&&_}
 use lib.ListN.{length, getD, take, drop, set}
 use lib.Bits.{bitAnd, bitXor}
 use lib.Count.{ones}
@@ -51,6 +51,12 @@ overlapParityOf w ws r mask =
     cond (bothWithin w ws r mask)
     (cond (odd (ones (bitAnd (setOf (row w ws (r .0))) (setOf (take w mask))))) parity.Odd parity.Even)
     parity.Outside
+
+-- Whether that is odd; a row or a mask that is not there has none in common.
+abbrev pub isOdd : Parity → Bool
+isOdd parity.Even = false
+isOdd parity.Odd = true
+isOdd parity.Outside = false
 
 unfoldable pub overlapCountOf : ℕ → List ℕ → Source → List ℕ → Overlap
 overlapCountOf w ws r mask =

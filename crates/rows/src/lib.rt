@@ -6,7 +6,7 @@ ghost use Prim.Native.Nat.{_+_, _*_, _≤_, _<_};
 ghost use lib.ListN.{length};
 ghost use lib.Dec.{leb, ltb};
 ghost use Rattle.rows.specs.Flat.{widthOf};
-ghost use Rattle.rows.specs.Calls.{sourceOf, partOf, rowOf, lowestOf, overlapParityOf, overlapCountOf, addable, addedWords, addedConstants};
+ghost use Rattle.rows.specs.Calls.{sourceOf, partOf, rowOf, lowestOf, overlapParityOf, isOdd, overlapCountOf, addable, addedWords, addedConstants};
 
 pub mod promises;
 
@@ -125,6 +125,17 @@ pub fn overlap_parity(rows: &[u64], width: usize, number: Source, mask: &[u64]) 
         words::Verdict::Yes => Parity::Odd,
         words::Verdict::No => Parity::Even,
         words::Verdict::Unequal => Parity::Outside,
+    }
+}
+
+// The same as yes or no: no where the row or the mask is not there.
+pub fn overlaps_odd(rows: &[u64], width: usize, number: Source, mask: &[u64]) -> bool
+    ensures { λ r. ⌜ r ≡ isOdd (overlapParityOf width (now (rows .entry)) number (now (mask .entry))) ⌝ }
+{
+    match overlap_parity(rows, width, number, mask) {
+        Parity::Odd => true,
+        Parity::Even => false,
+        Parity::Outside => false,
     }
 }
 

@@ -1,5 +1,4 @@
 -- `probe::size` meets its contract: eight words are counted.
-use mathlib.Core.Path.{_≡_}
 use native.Mathlib.Nat.{le-of-eq}
 use Rattle.parity.proofs.Single.{count-is, count-equal, count-narrow}
 use borrow.Author.Needs.{needs}

@@ -1,12 +1,12 @@
 -- `eliminate::reduce` meets its contract: each turn adds the row kept at the lowest atom in common with the pivots (`Turning`).
-use Prim.Native.Nat.{ℕ, _+_, _-_}
+use Prim.Native.Nat.{_+_, _-_}
 use mathlib.Core.Path.{_≡_, _∙_}
 use native.Mathlib.Omega.{arith}
 use lib.ListN.{length}
 use lib.Bits.{bitAnd}
 use Rattle.words.specs.Set.{setOf}
 use Rattle.region.proofs.Nexts.{next-from}
-use Rattle.probe.proofs.Turning.{Turning, turning-start, part-length, turning-next, turning-end}
+use Rattle.probe.proofs.Turning.{Turning, turning-start, turning-next, turning-end}
 use borrow.Author.Needs.{needs}
 use Rattle.probe.proofs.eliminate.reduce.Statement.{statement}
 use Rattle.probe.proofs.eliminate.reduce.Tie as tie

@@ -1,8 +1,7 @@
 -- `eliminate::store` meets its contract: after i turns the first i words stand at their place.
-use Prim.Native.Nat.{_+_, _-_, _*_, _≤_}
+use Prim.Native.Nat.{_-_, _*_}
 use mathlib.Core.Path.{refl}
 use native.Mathlib.Omega.{arith}
-use lib.ListN.{length}
 use Rattle.probe.proofs.Storing.{Storing, storing-start, storing-next, storing-end}
 use borrow.Author.Needs.{needs}
 use Rattle.probe.proofs.eliminate.store.Statement.{statement}
