@@ -242,25 +242,41 @@ static size_t late_number(worzubil_system s, const worzubil_region *r, const wor
     return 0;
 }
 
-/* Why touched rows (`rows_too` not) or an inspection are refused, or 0. */
-static size_t inspect_number(worzubil_system s, const worzubil_region *r, const worzubil_snapshot *k, bool rows_too) {
-    if (s.atoms > LIMIT || s.rows > LIMIT || r->atoms > LIMIT || (k->initialized && k->atoms > LIMIT)) return 10;
-    size_t width = width_of(s.atoms), places = least(s.rows, s.atoms);
-    if (s.rank > places) return 13;
-    if (marks.n < s.atoms * stride_of(s.rank)) return 9;
-    if (rows_too && (rows.n < s.rows * width || constants.n < s.rows || basis.n < places || forced_atoms.n < s.rank ||
-                     forced_values.n < s.rank))
-        return 9;
-    for (size_t i = 0; rows_too && i < s.rows; i++) {
+/* What is wrong with rows, constants, region and basis from 11 to 13, or 0. */
+static size_t rows_number(worzubil_system s, const worzubil_region *r) {
+    size_t width = width_of(s.atoms);
+    for (size_t i = 0; i < s.rows; i++) {
         if (constants.want[i] > 1) return 11;
         for (size_t a = s.atoms; a < width * 64; a++)
             if (bit_of(rows.want + i * width, a)) return 11;
     }
     size_t number = region_number(r);
-    if (number != 0) return number;
-    for (size_t j = 0; rows_too && j < s.rank; j++)
-        if (basis.want[j] >= s.rows) return 13;
-    return late_number(s, r, k);
+    for (size_t j = 0; number == 0 && j < s.rank; j++)
+        if (basis.want[j] >= s.rows) number = 13;
+    return number;
+}
+
+static bool rows_short(worzubil_system s) {
+    return rows.n < s.rows * width_of(s.atoms) || constants.n < s.rows || basis.n < least(s.rows, s.atoms);
+}
+
+/* Why touched rows (`rows_too` not) or an inspection are refused, or 0. */
+static size_t inspect_number(worzubil_system s, const worzubil_region *r, const worzubil_snapshot *k, bool rows_too) {
+    if (s.atoms > LIMIT || s.rows > LIMIT || r->atoms > LIMIT || (k->initialized && k->atoms > LIMIT)) return 10;
+    if (s.rank > least(s.rows, s.atoms)) return 13;
+    if (marks.n < s.atoms * stride_of(s.rank)) return 9;
+    if (rows_too && (rows_short(s) || forced_atoms.n < s.rank || forced_values.n < s.rank)) return 9;
+    size_t number = rows_too ? rows_number(s, r) : region_number(r);
+    return number != 0 ? number : late_number(s, r, k);
+}
+
+/* Why a probe is refused, or 0. */
+static size_t probe_number(worzubil_system s, const worzubil_region *r) {
+    if (s.atoms > LIMIT || s.rows > LIMIT || r->atoms > LIMIT) return 10;
+    if (s.rank > least(s.rows, s.atoms)) return 13;
+    if (rows_short(s)) return 9;
+    size_t number = rows_number(s, r);
+    return number != 0 ? number : r->atoms != s.atoms ? 15 : 0;
 }
 
 /* Whether basis row j is touched. */
@@ -317,6 +333,34 @@ static worzubil_inspection inspected(worzubil_system s, worzubil_region r, worzu
         *(holds ? &want.held : &want.cut) += 1;
     }
     if (want.held + want.cut > 0) want.kind = WORZUBIL_CHANGED;
+    return want;
+}
+
+/* What a probe must answer. */
+static worzubil_probed probed(worzubil_system s, const worzubil_region *r) {
+    worzubil_probed want = {.number = probe_number(s, r)};
+    bool values[LIMIT];
+    if (want.number != 0) return want;
+    for (size_t a = 0; a < s.atoms; a++) want.undecided += !settled(r->held, r->cut, a);
+    for (size_t j = 0; j < s.rank && !s.refuted; j++) {
+        size_t low = 0, k = want.kept;
+        values[k] = constants.want[basis.want[j]];
+        for (size_t a = 0; a < s.atoms; a++) {
+            bool has = bit_of(rows.want + basis.want[j] * width_of(s.atoms), a);
+            bits[k][a] = has && !settled(r->held, r->cut, a);
+            values[k] ^= has && bit_of(r->held, a);
+        }
+        for (size_t i = 0; i < k; i++) {
+            if (!bits[k][lows[i]]) continue;
+            for (size_t a = 0; a < s.atoms; a++) bits[k][a] ^= bits[i][a];
+            values[k] ^= values[i];
+        }
+        while (low < s.atoms && !bits[k][low]) low++;
+        if (low == s.atoms && values[k]) return want;
+        lows[k] = low;
+        want.kept += low < s.atoms;
+    }
+    want.yes = !s.refuted;
     return want;
 }
 
@@ -631,7 +675,47 @@ static void of_inspection(worzubil_system s, worzubil_region r, worzubil_snapsho
     held_bytes("inspect", &forced_values);
 }
 
-/* A region of the prepared system and knowledge of a part of it, then one thing that is unfit now and then. */
+/* A probe of the system that the buffers hold. */
+static void of_probe(worzubil_system s, worzubil_region r) {
+    worzubil_probed want = probed(s, &r);
+    worzubil_probed said = worzubil_probe(s, at(&rows), rows.n, constants.cells + GUARD, constants.n, (const size_t *)at(&basis),
+                                          basis.n, r);
+    check("probe", "the number", want.number, said.number);
+    check("probe", "yes", want.yes, said.yes);
+    check("probe", "undecided", want.undecided, said.undecided);
+    check("probe", "kept", want.kept, said.kept);
+    held("probe", &rows);
+    held_bytes("probe", &constants);
+    held("probe", &basis);
+}
+
+/* Makes one thing unfit, now and then. */
+static void spoil(worzubil_system *s, worzubil_region *r, worzubil_snapshot *k) {
+    size_t last = r->atoms > 0 && r->atoms <= LIMIT ? r->atoms - 1 : 0, place = constants.n > 0 ? below(constants.n) : 0;
+    switch (below(40)) {
+    case 0: s->rank = around(least(s->rank, LIMIT)); break;
+    case 1: s->rows = around(least(s->rows, LIMIT)); break;
+    case 2: s->atoms = around(least(s->atoms, LIMIT)); break;
+    case 3: r->atoms = around(least(r->atoms, LIMIT)); break;
+    case 4: k->atoms = around(least(r->atoms, LIMIT)); break;
+    case 5: k->cut[below(8)] |= any_word(); break;
+    case 6: s->refuted = !s->refuted; break;
+    case 7:
+        if (basis.n > 0) put(&basis, below(basis.n), around(least(s->rows, LIMIT)));
+        break;
+    case 8: *(below(3) == 0 ? &s->rows : below(2) ? &s->atoms : &r->atoms) = LIMIT + 1; break;
+    case 9:
+        if (constants.n > 0) constants.cells[GUARD + place] = constants.want[place] = 2;
+        break;
+    case 10:
+        r->held[last / 64] |= (uint64_t)1 << (last % 64);
+        r->cut[last / 64] |= (uint64_t)1 << (last % 64);
+        break;
+    default: break;
+    }
+}
+
+/* A region of the prepared system and knowledge of a part of it, then up to two things that are unfit now and then. */
 static void of_regions(worzubil_system s) {
     worzubil_region r = any_region(s.atoms, below(9));
     worzubil_snapshot k = worzubil_fresh();
@@ -648,22 +732,12 @@ static void of_regions(worzubil_system s) {
             k.cut[i] = r.cut[i] & part;
         }
     }
-    switch (below(40)) {
-    case 0: s.rank = around(s.rank); break;
-    case 1: s.rows = around(s.rows); break;
-    case 2: s.atoms = around(s.atoms); break;
-    case 3: r.atoms = around(r.atoms); break;
-    case 4: k.atoms = around(r.atoms); break;
-    case 5: k.cut[below(8)] |= any_word(); break;
-    case 6: s.refuted = !s.refuted; break;
-    case 7:
-        if (basis.n > 0) put(&basis, below(basis.n), around(s.rows));
-        break;
-    default: break;
-    }
+    spoil(&s, &r, &k);
+    spoil(&s, &r, &k);
     of_region(r, k);
     of_inspection(s, r, k);
     of_references(s, r, k);
+    of_probe(s, r);
 }
 
 static void of_systems(void) {

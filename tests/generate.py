@@ -11,6 +11,8 @@ import random
 import sys
 import types
 
+import reading
+
 EDGES = (0, 1, 2, 63, 64, 65, 127, 128, 129, 511, 512)
 LIMIT = 65536
 
@@ -316,12 +318,18 @@ SPARE = {"rows": 2**64 - 1, "constants": 255, "basis": 2**64 - 1, "index": 2**64
 
 
 class State(types.SimpleNamespace):
-    """What a call is lent, fit or not; `line` writes it down. `short` has the cells that a buffer lacks, below 0 those too many."""
+    """What a call is lent, fit or not; `line` writes it down. `short` has the cells that a buffer lacks, below 0 those too many, and
+    `told` the counts that are named in the place of those that the buffers have."""
+
+    told = {}
+
+    def count(self, name):
+        return self.told.get(name, getattr(self, name))
 
     def field(self, name):
         width = -(-self.n // 64)
         values = {
-            "system": lambda: [self.n, self.m, self.rank, "refuted" if self.refuted else "sound"],
+            "system": lambda: [*map(self.count, ("n", "m", "rank")), "refuted" if self.refuted else "sound"],
             "size": lambda: [self.n, self.m],
             "atoms": lambda: [self.n],
             "rank": lambda: [self.rank],
@@ -330,7 +338,7 @@ class State(types.SimpleNamespace):
             "constants": lambda: [int(constant) for constant in self.constants],
             "basis": lambda: self.basis,
             "index": lambda: [word for column in self.columns for word in split(column, 2 * -(-self.rank // 128))],
-            "region": lambda: [self.region_n],
+            "region": lambda: [self.count("region_n")],
             "held": lambda: split(self.held),
             "cut": lambda: split(self.cut),
             "known": lambda: [self.known_n] if self.known else ["fresh"],
@@ -576,7 +584,7 @@ def column_case(rng, number):
     return " ".join([f"column atom {atom} atoms {n} rank {rank}", show("index", index, "{:x}")])
 
 
-# Decisions, touched rows and inspections, and runs of them
+# Decisions, touched rows, inspections and probes, and runs of them
 
 
 def lent_sizes(rng, number):
@@ -614,6 +622,74 @@ def lent_case(rng, number):
     return state.line(rng.choices(("hold", "cut", "touched", "inspect"), (1, 1, 2, 6))[0])
 
 
+def probed_system(rng, n, m):
+    """A system as preparation leaves it, or with any rows and any basis, which may name a row twice; the truth meets most rows."""
+    style, truth, places = rng.choice(STYLES), rng.getrandbits(n + 1) & (1 << n) - 1, min(m, n)
+    rows, refuting = system_rows(rng, n, m, style)
+    constants = constants_for(rng, truth, rows, style, refuting)
+    basis = rng.choices(range(m), k=places) if rng.getrandbits(1) else rng.sample(range(m), places)
+    rank, refuted = rng.choice((places, rng.randint(0, places))), rng.random() < 0.1
+    if rng.getrandbits(1):
+        (_, _, rank, refuted), *_, left, basis, _ = reading.prepare(n, zip(rows, constants))
+        rows, constants = [mask for mask, _ in left], [constant for _, constant in left]
+        basis += [SPARE["basis"]] * (places - rank)
+    return State(n=n, m=m, truth=truth, rank=rank, refuted=refuted, rows=rows, constants=constants, basis=basis, region_n=n,
+                 known=False, short={}, told={})
+
+
+def settle(rng, state):
+    """Decides no atom, a few, half, nearly all or all: as the truth has them, but for a few, or anyhow; at times turns a constant."""
+    n, few = state.n, min(state.n, rng.randint(1, 4))
+    some = sum(1 << atom for atom in rng.sample(range(n), rng.choice((0, few, n // 2, n // 2, n - few, n))))
+    values = state.truth ^ rng.choice((0, 0, subset(rng, n, "sparse"), rng.getrandbits(n + 1)))
+    if state.rank and rng.random() < 0.3:
+        state.constants[rng.choice(state.basis[: state.rank])] ^= 1
+    state.held, state.cut = some & values, some & ~values
+
+
+PROBE_FAULTS = (10, "rank", 9, 11, 12, "entry", 15)  # in the order of their numbers; both words are 13
+
+
+def spoil_probe(rng, state, fault):
+    """One fault, mostly just past its bound; none where the system is too small for it."""
+    n, m, places = state.n, state.m, min(state.m, state.n)
+    far, where = rng.choice((0, 0, 0, 1, 2**63)), rng.choice((0, m // 2, m - 1))
+    if fault == 10:
+        state.told[rng.choice(("n", "m", "region_n"))] = 513 + far
+    elif fault == "rank":
+        state.told["rank"] = places + 1 + far
+    elif fault == 9:
+        name, less = rng.choice((("rows", 1), ("constants", 1), ("basis", 1), ("basis", max(1, places - state.rank))))
+        state.short[name] = less
+    elif fault == 11:
+        part = rng.choice(("row", "constant", "held", "cut"))
+        if part == "row" and m and n % 64:
+            state.rows[where] |= 1 << rng.choice((n, n | 63))
+        elif part == "constant" and m:
+            state.constants[where] = rng.choice((2, 255))
+        elif part in ("held", "cut") and n < 512:
+            setattr(state, part, getattr(state, part) | 1 << rng.choice((n, n | 63, 511)))
+    elif fault == 12 and n:
+        both = 1 << rng.choice((0, n - 1, rng.randrange(n)))
+        state.held, state.cut = state.held | both, state.cut | both
+    elif fault == "entry" and state.rank:
+        state.basis[rng.choice((0, state.rank - 1))] = m + far
+    elif fault == 15:
+        state.region_n = min(512, n + 1) if rng.getrandbits(1) else max(0, n - 1)
+        state.held, state.cut = (mask & (1 << state.region_n) - 1 for mask in (state.held, state.cut))
+
+
+def probe_case(rng, number):
+    """A probe of a small system or of one of all pairs of borders: fit, with a fault or with two, at times with a longer buffer."""
+    state = probed_system(rng, *lent_sizes(rng, number))
+    settle(rng, state)
+    if rng.random() < 0.2:
+        state.short[rng.choice(("rows", "constants", "basis"))] = -1
+    for fault in rng.sample(PROBE_FAULTS, rng.choice((0, 0, 0, 0, 1, 2, 2))):
+        spoil_probe(rng, state, fault)
+    return state.line("probe")
+
+
 def run_case(rng, number):
     """Small systems, and those of all pairs of borders, in all styles; then calls."""
     n, m = lent_sizes(rng, number)
@@ -627,8 +703,8 @@ def run_case(rng, number):
 
 
 def run_calls(rng, n, places, truth):
-    """Decisions that mostly follow the truth, of few atoms or of nearly all, and inspections; some are refused."""
-    follow, inspections = rng.choice((0.5, 0.9, 1, 1)), rng.choice((0, 0.05, 0.2, 0.5))
+    """Decisions that mostly follow the truth, of few atoms or of nearly all, inspections and probes; some are refused."""
+    follow, inspections, probes = rng.choice((0.5, 0.9, 1, 1)), rng.choice((0, 0.05, 0.2, 0.5)), rng.choice((0.02, 0.2, 0.5))
     atoms = rng.choices(range(n), k=rng.randint(0, 25)) if n else []
     if rng.random() < (0.5 if n < 70 else 0.1):
         atoms = rng.sample(range(n), n - rng.randint(0, min(n, 3))) + atoms[:5]
@@ -642,8 +718,11 @@ def run_calls(rng, n, places, truth):
         yield f"decide {atom} {value}"
         while rng.random() < inspections:
             yield show("inspect", rng.choice(lengths))
+        if rng.random() < probes:
+            yield "probe"
     for _ in range(rng.randint(0, 4)):
         yield show("inspect", rng.choice(lengths))
+        yield "probe"
 
 
 def tables(limit):

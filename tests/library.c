@@ -253,7 +253,7 @@ static void print_known(worzubil_snapshot known) {
     print_mask("oldcut", known.cut, known.atoms);
 }
 
-/* ---- decisions and inspections */
+/* ---- decisions, inspections and probes */
 
 /* Region and knowledge, as the last call left them. */
 static worzubil_region region;
@@ -318,6 +318,20 @@ static void inspect(const filled *lent, size_t atoms_length, size_t values_lengt
     give_back(&forced);
 }
 
+/* Probes, and prints the answer. */
+static void probe(const filled *lent) {
+    const buffer *rows = &lent->rows, *constants = &lent->constants, *basis = &lent->basis;
+    worzubil_probed said = worzubil_probe(lent->system, rows->cells, rows->length, constants->cells, constants->length, basis->cells,
+                                          basis->length, region);
+    if (said.number != 0) {
+        printf("refused %zu", said.number);
+        blame(said.yes || said.undecided + said.kept != 0, "a field is not 0");
+    } else {
+        printf("probe %s %zu %zu", said.yes ? "yes" : "no", said.undecided, said.kept);
+    }
+    blame(!stands(rows, 0) || !stands(constants, 0) || !stands(basis, 0), "a cell touched that is not named");
+}
+
 static void decide_state(bool value) {
     size_t atom = read_number();
     region = read_region();
@@ -360,6 +374,18 @@ static void inspect_state(void) {
     give_back(&lent.index);
 }
 
+static void probe_state(void) {
+    filled lent = {.system = read_system()};
+    lent.rows = lend_words(read_field(16));
+    lent.constants = lend_bytes(read_field(10));
+    lent.basis = lend_words(read_field(10));
+    region = read_region();
+    probe(&lent);
+    give_back(&lent.rows);
+    give_back(&lent.constants);
+    give_back(&lent.basis);
+}
+
 /* ---- runs */
 
 /* The calls of a run, from the first on, over one region and one knowledge. */
@@ -368,17 +394,22 @@ static void run_calls(const filled *lent) {
     known = worzubil_fresh();
     advance();
     while (token) {
-        bool inspects = strcmp(token, "inspect") == 0;
-        if (read_field(10) != 2) exit(2);
+        const char *call = token;
+        size_t count = read_field(10);
+        if (count != (strcmp(call, "probe") == 0 ? 0 : 2)) exit(2);
         printf("; ");
-        if (inspects) {
+        if (strcmp(call, "inspect") == 0) {
             inspect(lent, values[0], values[1], true);
             continue;
         }
-        size_t atom = values[0];
-        bool value = values[1] != 0;
-        printf("decide %zu %d ", atom, value);
-        decide(atom, value);
+        if (count == 0) {
+            probe(lent);
+        } else {
+            size_t atom = values[0];
+            bool value = values[1] != 0;
+            printf("decide %zu %d ", atom, value);
+            decide(atom, value);
+        }
         print_region(region);
         printf(" forced");
         print_known(known);
@@ -410,8 +441,8 @@ static void run(void) {
 
 /* Whether the call is known. */
 static bool answer(const char *call) {
-    static const char *const names[] = {"hull", "prepare", "column", "touched", "inspect", "run"};
-    static void (*const calls[])(void) = {hull, prepare, column, touched_state, inspect_state, run};
+    static const char *const names[] = {"hull", "prepare", "column", "touched", "inspect", "probe", "run"};
+    static void (*const calls[])(void) = {hull, prepare, column, touched_state, inspect_state, probe_state, run};
     for (size_t i = 0; i < sizeof names / sizeof *names; i++) {
         if (strcmp(call, names[i]) != 0) continue;
         calls[i]();

@@ -476,9 +476,9 @@ CALLS = {
 
 
 def read_run(case):
-    """What comes before the calls, and each of them: its name and two numbers."""
-    head, *rest = re.split(" (?=calls|decide|inspect)", case)
-    return head, [(name, int(first), int(second)) for name, first, second in map(str.split, rest[1:])]
+    """What comes before the calls, and each of them: its name and its numbers."""
+    head, *rest = re.split(" (?=calls|decide|inspect|probe)", case)
+    return head, [(name, *map(int, numbers)) for name, *numbers in map(str.split, rest[1:])]
 
 
 def answer_run(case):
@@ -489,14 +489,16 @@ def answer_run(case):
     buffers = prepared.rows, prepared.basis, prepared.columns
     region, known = Region(lent.n, 0, 0), None
     answers = [f"{system_line(prepared)} {show_prepared(prepared)}"]
-    for name, first, second in calls:
+    for name, *numbers in calls:
         forced = []
         if name == "decide":
-            answer = "refused 18"
-            if first < lent.n:
-                region, answer = decide(region, first, second)
-            answer = f"{first} {second} {answer}"
-        elif min(first, second) < prepared.system.rank:
+            (atom, value), answer = numbers, "refused 18"
+            if atom < lent.n:
+                region, answer = decide(region, atom, value)
+            answer = f"{atom} {value} {answer}"
+        elif name == "probe":
+            answer = "{} {} {}".format(*probe(prepared.system, prepared.rows, prepared.basis, region))
+        elif min(numbers) < prepared.system.rank:
             answer = "refused 9"
         else:
             said, region, forced, known = inspect(prepared.system, *buffers, region, known)

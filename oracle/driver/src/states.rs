@@ -97,11 +97,12 @@ fn calls(fields: &Fields, line: &str) -> Option<String> {
     let (mut region, mut known) = (Region::undecided(size[0]), system.knowledge());
     let (head, details) = file::prepared(&system, false);
     let mut answer = head + &details;
-    let tokens: Vec<&str> = line.split_once(" calls")?.1.split_whitespace().collect();
-    for call in tokens.chunks(3) {
-        let call = match call {
-            ["decide", atom, value] => Call::Decide(atom.parse().ok()?, *value == "1"),
-            ["inspect", _, _] => Call::Inspect,
+    let mut tokens = line.split_once(" calls")?.1.split_whitespace();
+    while let Some(name) = tokens.next() {
+        let call = match name {
+            "decide" => Call::Decide(tokens.next()?.parse().ok()?, tokens.next()? == "1"),
+            "inspect" => tokens.nth(1).map(|_| Call::Inspect)?,
+            "probe" => Call::Probe,
             _ => return None,
         };
         let (line, forced) = file::run(&system, &mut region, &mut known, call);
