@@ -77,12 +77,12 @@ getD-spread n (b ∷ names) c a l h = either (odd c) (getD-spread n names (c / 2
     either true ih = marks (eqb a b) refl ih
     either false ih = ih
 
-packed-zeros : (k : ℕ) → packed 64 (replicate k 0) ≡ 0
+pub packed-zeros : (k : ℕ) → packed 64 (replicate k 0) ≡ 0
 unfolding packed
 packed-zeros zero = refl
 packed-zeros (suc k) = ap (λ (x : ℕ). x * 2 ^ 64 + 0) (packed-zeros k)
 
-atoms-marked : (n w : ℕ) (names : List ℕ) (c : ℕ) → n ≤ w * 64 → Rising 0 n names
+pub atoms-marked : (n w : ℕ) (names : List ℕ) (c : ℕ) → n ≤ w * 64 → Rising 0 n names
     → atomsOf n (setOf (marked names c (replicate w 0))) ≡ spread n names (atomsOf (length names) c)
 atoms-marked n w names c wide r =
     let x = setOf (marked names c (replicate w 0)) in

@@ -10,7 +10,7 @@ use lib.ListN.{length, getD, set, take, drop, length-append}
 use lib.Seq.{sets, sets-eq, length-sets, set-out, take-suc, take-all}
 use Rattle.text.specs.Text.{Wrote}
 
-sets-append : (l : List ℕ) (i : ℕ) (s t : List ℕ) → sets l i (s ++ t) ≡ sets (sets l i s) (i + length s) t
+pub sets-append : (l : List ℕ) (i : ℕ) (s t : List ℕ) → sets l i (s ++ t) ≡ sets (sets l i s) (i + length s) t
 sets-append l i [] t = ap (λ (j : ℕ). sets l j t) (sym (add-zero i))
 sets-append l i (a ∷ s) t =
     sets-append (set l i a) (suc i) s t ∙ ap (λ (j : ℕ). sets (sets (set l i a) (suc i) s) j t) (suc-add i (length s) ∙ sym (add-suc i (length s)))
