@@ -2,23 +2,22 @@
 use Prim.Native.Nat.{ℕ, _+_, _*_, _≤_, _<_}
 use mathlib.Core.Path.{_≡_, refl, sym, ap, ap₂, subst, _∙_}
 use mathlib.Core.List.{List, [], _∷_, _++_, append-nil, append-assoc, map, reverse, reverse-cons}
-use mathlib.Core.Bool.{Bool, true, false, cond, _||_}
+use mathlib.Core.Bool.{Bool, true, false, cond}
 use native.Mathlib.Omega.{arith}
 use borrow.Author.Tests.{eqb-true, eq-eqb, ne-eqb}
 use lib.ListN.{length, length-append, length-map}
 use lib.Dec.{eqb}
 use Rattle.rows.specs.Row.{Row}
-use Rattle.rows.specs.Flat.{widthOf, rowAt}
-use Rattle.hull.specs.Propose.{limit, tableWords}
+use Rattle.rows.specs.Flat.{rowAt}
+use Rattle.hull.specs.Propose.{tableWords}
 use Rattle.hull.specs.Equations.{hullOf}
 use Rattle.echelon.specs.Eliminate.{rowsTo, wordsOf, constantsOf}
 use Rattle.echelon.specs.Promises.{Sized, numbered}
 use Rattle.echelon.proofs.Numbered.{numbered-last, numbered-before}
 use Rattle.echelon.proofs.Written.{numbered-at}
 use Rattle.embed.specs.Embed.{rowOver}
-use Rattle.embed.specs.Parts.{Part, row, table, FitPart, FitParts, rowsOf, allRows}
+use Rattle.embed.specs.Parts.{Part, row, table, FitParts, rowsOf, allRows}
 use Rattle.embed.proofs.Embedded.{spread-length}
-use Rattle.format.specs.Bytes.{listFrom}
 use Rattle.format.specs.Format.{kindAt, nextAt, atomAt, rowAtoms, kAt, tableAtoms, tableWordAt, tableAt}
 use Rattle.format.specs.Starts.{starts}
 use Rattle.format.proofs.Listing.{list-length}

@@ -5,7 +5,7 @@ use mathlib.Core.List.{List, [], _∷_, map}
 use mathlib.Core.Bool.{Bool, false, _||_, or-assoc, or-false}
 use native.Mathlib.Nat.{add-zero, add-suc, suc-add, zero-add, div-lt-iff-lt-mul, zero-lt-suc, mod-lt}
 use native.Mathlib.Omega.{arith}
-use lib.Bits.{bitOr, or-lt}
+use lib.Bits.{or-lt}
 use lib.Pow.{pow-lt, pow-pos}
 use lib.ListN.{length, getD, set, replicate, length-replicate, length-map}
 use lib.Seq.{ext-getD}

@@ -4,3 +4,4 @@ pub mod Loading
 pub mod Tabled
 pub mod Handed
 pub mod Whole
+pub mod Promised

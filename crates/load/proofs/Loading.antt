@@ -3,7 +3,7 @@ use Prim.Native.Nat.{ℕ, zero, suc, _+_, _*_, _≤_}
 use mathlib.Core.Path.{_≡_, refl, sym, ap, ap₂, _∙_}
 use mathlib.Core.List.{List, [], _∷_, _++_, append-nil, append-assoc, reverse, reverse-append}
 use mathlib.Core.Bool.{cond}
-use native.Mathlib.Nat.{zero-add, add-zero, add-mul, zero-mul, suc-mul, mul-le-mul-right}
+use native.Mathlib.Nat.{zero-add, add-zero, add-mul, zero-mul, mul-le-mul-right}
 use native.Mathlib.Omega.{arith}
 use lib.ListN.{length, take, drop, set, replicate, length-append, length-reverse}
 use lib.Seq.{sets, sets-eq, length-sets}

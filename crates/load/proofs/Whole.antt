@@ -1,31 +1,28 @@
--- A whole file: the ends of `load`, and the promises.
+-- A whole file: its parts, and the ends of `load`.
 use Prim.Native.Nat.{ℕ, _+_, _*_, _≤_, _<_}
 use mathlib.Core.Path.{_≡_, refl, sym, ap, ap₂, subst, _∙_}
-use mathlib.Core.List.{List, reverse}
+use mathlib.Core.List.{List}
 use mathlib.Core.Bool.{Bool, true, false, cond, _||_}
 use native.Mathlib.Nat.{zero-add}
-use native.Mathlib.Omega.{arith}
-use borrow.Author.Tests.{eq-eqb, ne-eqb, lt-ltb, le-ltb, ltb-false}
-use lib.ListN.{length, drop, length-reverse}
+use borrow.Author.Tests.{eq-eqb, ne-eqb, lt-ltb, le-ltb}
+use lib.ListN.{length}
 use lib.Dec.{eqb, ltb}
 use Rattle.rows.specs.Row.{Row}
 use Rattle.rows.specs.Flat.{widthOf}
 use Rattle.fit.specs.Rows.{limit, short}
-use Rattle.fit.proofs.Among.{or-none, or-right}
-use Rattle.echelon.specs.Eliminate.{rowsTo, wordsOf, constantsOf}
-use Rattle.embed.specs.Parts.{FitParts, allRows}
+use Rattle.fit.proofs.Among.{or-right}
+use Rattle.embed.specs.Parts.{allRows}
 use Rattle.format.specs.Starts.{starts}
 use Rattle.records.specs.Check.{checkOf}
 use Rattle.records.specs.Promises.{RecordsFit}
 use Rattle.records.specs.declared.Checked.{Checked}
 use Rattle.records.proofs.Whole.{file-fit, file-within, rows-counted}
-use Rattle.load.specs.Parts.{partsFrom, partsOf}
-use Rattle.load.specs.Load.{rowsIn, Outcome, outcome, filled, tooShort, loadOf}
-use Rattle.load.specs.Promises.{PartsFit, PartsCounted, LoadHandsIn}
+use Rattle.load.specs.Parts.{partsFrom}
+use Rattle.load.specs.Load.{Outcome, outcome, filled, tooShort, loadOf}
+use Rattle.load.specs.Promises.{PartsFit, PartsCounted}
 use Rattle.load.specs.Steps.{Room, Loaded}
-use Rattle.load.proofs.Inserted.{wide}
 use Rattle.load.proofs.Loading.{all-loaded}
-use Rattle.load.proofs.Handed.{all-fit, all-counted, sized-rows, sized-reverse, rows-back}
+use Rattle.load.proofs.Handed.{all-fit, all-counted}
 
 pub parts-fit : PartsFit
 parts-fit file e = all-fit file (checkOf file .atoms) (starts file 0) (file-fit file e)
@@ -99,13 +96,3 @@ module _ (file ws cs : List ℕ) (c : Checked) (is : c ≡ checkOf file) where
           (λ u room done.
           let both = all-loaded (widthOf (checkOf file .atoms)) (checkOf file .rows) (all (checkOf file)) ws cs ws′ cs′ next (parts-counted file (u .0)) room done in
           ap₂ (outcome (checkOf file)) (both .0) (both .1))
-
-pub load-hands-in : LoadHandsIn
-load-hands-in file ws cs e f =
-    let n = checkOf file .atoms in
-    let w = widthOf n in
-    let rs = rowsIn file in
-    let count : length rs ≡ checkOf file .rows = length-reverse (allRows n (partsOf file)) ∙ parts-counted file e in
-    ap (λ (x : Outcome). rowsTo n w (x .rows) (x .constants) (checkOf file .rows)) (sym (load-fit file ws cs (checkOf file) refl e f))
-    ∙ ap (rowsTo n w (filled file ws cs .rows) (filled file ws cs .constants)) (sym count)
-    ∙ rows-back n w rs _ _ (sized-reverse n (allRows n (partsOf file)) (sized-rows n (partsOf file) (parts-fit file e))) (wide n)

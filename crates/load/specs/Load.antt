@@ -14,8 +14,8 @@ use Rattle.records.specs.declared.Checked.{Checked}
 use Rattle.load.specs.Parts.{partsOf}
 
 -- The rows of a file, "A table becomes its hull's equations, in its place"; like every list of rows that stand in memory, the last first.
-abbrev pub rowsIn : List ℕ → List Row
-rowsIn file = reverse (allRows (checkOf file .atoms) (partsOf file))
+abbrev pub fileRows : List ℕ → List Row
+fileRows file = reverse (allRows (checkOf file .atoms) (partsOf file))
 
 -- The result, and what the lent rows and constants hold.
 pub record Outcome : Type 0 where
@@ -31,7 +31,7 @@ abbrev pub filled : List ℕ → List ℕ → List ℕ → Outcome
 filled file ws cs =
     let w = widthOf (checkOf file .atoms) in
     let m = checkOf file .rows in
-    outcome (checkOf file) (wordsOf w (rowsIn file) ++ drop (m * w) ws) (constantsOf (rowsIn file) ++ drop m cs)
+    outcome (checkOf file) (wordsOf w (fileRows file) ++ drop (m * w) ws) (constantsOf (fileRows file) ++ drop m cs)
 
 -- "9: a lent buffer too short. For m rows: m·W row words, m constants"
 abbrev pub tooShort : Checked

@@ -78,7 +78,7 @@ all-counted file (o ∷ os) seen e =
 
 -- a file without a fault comes to the fold over all its records
 module _ (file : List ℕ) (e : checkOf file .number ≡ 0) where
-  whole : checkOf file ≡ checkFrom file nothingSeen (starts file 0)
+  pub whole : checkOf file ≡ checkFrom file nothingSeen (starts file 0)
   unfolding checkOf
   whole = go (eqb (fileFault file .number) 0) refl
     where
@@ -89,7 +89,7 @@ module _ (file : List ℕ) (e : checkOf file .number ≡ 0) where
       go true h = by true h
       go false h = absurd (eqb-false _ _ h (sym (ap (λ (r : Checked). r .number) (by false h)) ∙ e))
 
-  none : checkFrom file nothingSeen (starts file 0) .number ≡ 0
+  pub none : checkFrom file nothingSeen (starts file 0) .number ≡ 0
   none = sym (ap (λ (r : Checked). r .number) whole) ∙ e
 
   pub file-fit : RecordsFit file (checkOf file .atoms) (starts file 0)

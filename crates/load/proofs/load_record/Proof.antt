@@ -1,6 +1,5 @@
 -- `load::load_record` meets its contract: by the record's kind.
-use Prim.Native.Nat.{ℕ}
-use mathlib.Core.Path.{_≡_, sym, subst, _∙_}
+use mathlib.Core.Path.{sym, subst, _∙_}
 use mathlib.Core.List.{List}
 use Rattle.rows.specs.Row.{Row}
 use Rattle.rows.specs.Flat.{widthOf}

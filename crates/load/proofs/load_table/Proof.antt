@@ -1,5 +1,5 @@
 -- `load::load_table` meets its contract: the atoms are read into the head of an array, and `embed` writes the equations.
-use Prim.Native.Nat.{ℕ, _+_, _≤_}
+use Prim.Native.Nat.{ℕ, _≤_}
 use mathlib.Core.Path.{_≡_, sym, ap, ap₂, _∙_}
 use mathlib.Core.List.{List}
 use mathlib.Core.Bool.{cond}

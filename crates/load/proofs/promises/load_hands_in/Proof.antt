@@ -1,5 +1,5 @@
 -- `load::promises::load_hands_in`: the law `load-hands-in`.
-use Rattle.load.proofs.Whole.{load-hands-in}
+use Rattle.load.proofs.Promised.{load-hands-in}
 use Rattle.load.proofs.promises.load_hands_in.Statement.{statement}
 use Rattle.load.proofs.promises.load_hands_in.Tie as tie
 
