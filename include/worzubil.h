@@ -331,6 +331,37 @@ typedef struct {
 worzubil_probed worzubil_probe(worzubil_system system, const uint64_t *rows, size_t rows_length, const uint8_t *constants,
                                size_t constants_length, const size_t *basis, size_t basis_length, worzubil_region region);
 
+/* ---- files */
+
+/* What the check of a file says: number 0 with its atoms and rows; else the refusal's number and the place in the file, and no rows. */
+typedef struct {
+    size_t number;
+    size_t offset;
+    size_t atoms;
+    size_t rows;
+} worzubil_checked;
+
+/* Checks a whole file; docs/FORMAT.md has the numbers 1 to 8 of what it refuses. Nothing is written. */
+worzubil_checked worzubil_check(const uint8_t *file, size_t file_length);
+
+/* Checks a file and writes its rows, as worzubil_prepare takes them. Nothing is written where the file is refused.
+ * For m rows of n atoms, as the check tells them, rows: m * worzubil_width(n) words; constants: m bytes; else 9. */
+worzubil_checked worzubil_load(const uint8_t *file, size_t file_length, uint64_t *rows, size_t rows_length, uint8_t *constants,
+                               size_t constants_length);
+
+/* The room that worzubil_answer_file asks for the text of a file of so many bytes. */
+#define WORZUBIL_ROOM(file_length) (64 + 8 * ((file_length) < 65536 ? (size_t)(file_length) : (size_t)65536))
+
+/* An answered file: number 0 and the length of its text, or 9. */
+typedef struct {
+    size_t number;
+    size_t length;
+} worzubil_answered;
+
+/* Answers a file, as `swaps` does: the text is written from the start of out on, and the rest of out is untouched.
+ * out: WORZUBIL_ROOM(file_length) bytes, else 9 and nothing is written. */
+worzubil_answered worzubil_answer_file(const uint8_t *file, size_t file_length, uint8_t *out, size_t out_length);
+
 /* ---- knowledge and forced list where the caller keeps them; of the archive that `rt staticlib by_ref` writes */
 
 /* worzubil_publish in the very record that is passed. Its number is answered: 0, or 10, 11 or 12, and the record stays as it is.

@@ -787,9 +787,25 @@ def small_states():
     return sorted(lines, key=lambda line: (len(line), line))
 
 
+def any_file(rng):
+    return assemble(valid_records(rng)) if rng.random() < 0.6 else damaged_file(rng)
+
+
 def file_case(rng):
-    file = assemble(valid_records(rng)) if rng.random() < 0.6 else damaged_file(rng)
-    return f"file {file.hex()}".strip()
+    return f"file {any_file(rng).hex()}".strip()
+
+
+def short_file(rng):
+    """A file of a few atoms, rows and calls in which a few bytes are changed, lost or put in; some are left as they are."""
+    n = rng.randint(0, 6)
+    truth = None if rng.random() < 0.2 else rng.getrandbits(n + 1) & (1 << n) - 1
+    records = [(1, pack(n)), *system_records(rng, n, rng.randint(0, 4), 0.4, truth, 2000)]
+    data = bytearray(assemble(records + call_records(rng, n, rng.randint(0, 4), truth)))
+    for _ in range(rng.choice((0, 1, 1, 1, 2, 3))):
+        at, how = rng.randrange(len(data) + 1), rng.randrange(4)
+        byte = bytes([rng.choice((0, 1, 2, 3, 4, 5, 6, n, 255, rng.getrandbits(8)))])
+        data[at : at + (how > 0)] = byte if how < 3 else b""
+    return bytes(data[: rng.randrange(len(data) + 1)] if rng.random() < 0.1 else data)
 
 
 def case(seed, number):

@@ -263,6 +263,16 @@ def answer_file(file, internals):
     return lines if internals else [line for line in lines if line.split()[0] not in ("prepared", "after")]
 
 
+def load_file(file):
+    """The line of a file's load: number and place of the check, atoms, rows, their words and their constants."""
+    try:
+        n, rows, _ = check_file(file)
+    except Refused as refusal:
+        return "loaded {} {} 0 0".format(*refusal.args)
+    kept = [word for mask, _ in rows for word in words(mask, ceil(n, 64))]
+    return show("loaded 0 0", [n, len(rows), *kept, *(constant for _, constant in rows)])
+
+
 def system_line(prepared):
     n, m, rank, refuted = prepared.system
     counts = f"{prepared.additions} {len(prepared.units)} {prepared.incidences}"

@@ -1,6 +1,6 @@
 // The public calls for C, each with the equation of the call it exports; include/worzubil.h declares them. Those of `words` and `rows`
 // stand here, those of `hull` and `embed` in hulls.rt, those of `parity` and `index` in prepares.rt, those of `region`, `snapshot` and
-// `inspect` in inspects.rt, that of `probe` in probes.rt.
+// `inspect` in inspects.rt, that of `probe` in probes.rt, those on files in files.rt.
 // A row's number, a place of the basis and an atom are plain numbers here. specs/Answers.antt says how each answer is told.
 ghost use mathlib.Core.Path.{_≡_};
 ghost use mathlib.Core.Bool.{cond};
@@ -15,6 +15,7 @@ ghost use Rattle.rows.specs.Flat.{widthOf};
 ghost use Rattle.rows.specs.Calls.{sourceOf, rowOf, lowestOf, overlapParityOf, overlapCountOf, addable, addedWords, addedConstants};
 ghost use Rattle.ffi.specs.Answers.{setBits, rowNumber, basisPlace, locatedAnswer, nextAnswer, foundAnswer, countedAnswer, verdictAnswer, entryAnswer, lowestAnswer, parityAnswer, overlapAnswer, spanOf};
 
+pub mod files;
 pub mod hulls;
 pub mod inspects;
 pub mod prepares;

@@ -76,15 +76,15 @@ spread-mask n (a ∷ names) (false ∷ c) = let l : 0 < 2 = omega arith in rw (l
 
 -- ---- and of all of them
 
-module _ (n w : ℕ) (names : List ℕ) (wide : n ≤ w * 64) (rising : Rising 0 n names) where
+module _ (n w : ℕ) (names : List ℕ) (fits : n ≤ w * 64) (rising : Rising 0 n names) where
   one-words : (r : Row) → marked names (maskOf (r .atoms)) (replicate w 0) ≡ unpack 64 w (maskOf (rowOver n names r .atoms))
   one-words r =
       let c = maskOf (r .atoms) in
       let named = chosen names c in
       let is : marked names c (replicate w 0) ≡ insertedAll named (replicate w 0) = chosen-marked names c (replicate w 0) in
-      is ∙ sym (all-words n w wide named (chosen-below 0 n names c rising))
+      is ∙ sym (all-words n w fits named (chosen-below 0 n names c rising))
       ∙ ap (λ (l : List ℕ). unpack 64 w (maskOf (atomsOf n (setOf l)))) (sym is)
-      ∙ ap (λ (s : List Bool). unpack 64 w (maskOf s)) (atoms-marked n w names c wide rising ∙ spread-mask n names (r .atoms))
+      ∙ ap (λ (s : List Bool). unpack 64 w (maskOf s)) (atoms-marked n w names c fits rising ∙ spread-mask n names (r .atoms))
 
   rows-words : (rs : List Row) → rowWords w names (map local rs) ≡ wordsOf w (reverse (map (rowOver n names) rs))
   unfolding rowWords wordsOf
@@ -100,10 +100,10 @@ module _ (n w : ℕ) (names : List ℕ) (wide : n ≤ w * 64) (rising : Rising 0
 -- ---- they can be written
 
 names-within : (from n w : ℕ) (names : List ℕ) → n ≤ w * 64 → Rising from n names → namesWithin w names ≡ true
-names-within from n w [] wide r = refl
-names-within from n w (a ∷ names) wide r =
+names-within from n w [] fits r = refl
+names-within from n w (a ∷ names) fits r =
     let below : a < w * 64 = omega (arith, r .1) in
-    ap₂ _&&_ (lt-ltb (a / 64) w (div-lt-iff-lt-mul (zero-lt-suc 63) .1 below)) (names-within (suc a) n w names wide (r .2))
+    ap₂ _&&_ (lt-ltb (a / 64) w (div-lt-iff-lt-mul (zero-lt-suc 63) .1 below)) (names-within (suc a) n w names fits (r .2))
 
 few-from : (k : ℕ) (l : List Pattern) → k ≤ limit → length (hullFrom k l .rows) ≤ limit
 unfolding hullFrom

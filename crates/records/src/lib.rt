@@ -39,6 +39,7 @@ struct Step {
 }
 
 // A fit file has the number 0; one that is refused has 0 for its atoms and rows.
+#[repr(C)]
 pub struct Checked {
     pub number: usize,
     pub offset: usize,
