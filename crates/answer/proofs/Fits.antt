@@ -1,19 +1,18 @@
 -- The text of every file has room.
-use Prim.Native.Nat.{ℕ, _+_, _*_, _≤_, _<_, min}
-use mathlib.Core.Path.{_≡_, refl, sym, ap, subst, _∙_}
-use mathlib.Core.List.{List, _++_}
+use Prim.Native.Nat.{ℕ, _+_, _*_, _≤_, _<_}
+use mathlib.Core.Path.{_≡_, refl}
+use mathlib.Core.List.{List}
 use mathlib.Core.Bool.{Bool, true, false, cond}
 use native.Mathlib.Decide.{decLe}
 use native.Mathlib.Omega.{arith}
 use borrow.Author.Tests.{eqb-true, lt-leb}
 use lib.ListN.{length, length-append}
-use lib.Dec.{eqb, leb}
+use lib.Dec.{eqb}
 use Rattle.parity.specs.Prepare.{prepareOf}
 use Rattle.inspect.specs.Promises.{filledBy}
 use Rattle.inspect.specs.Run.{begins}
 use Rattle.format.specs.Starts.{starts}
 use Rattle.records.specs.Check.{nothingSeen, fileLimit, checkOf}
-use Rattle.records.specs.declared.Checked.{Checked}
 use Rattle.records.proofs.Whole.{none}
 use Rattle.load.specs.Load.{loadOf}
 use Rattle.lines.specs.Lines.{linesFrom}

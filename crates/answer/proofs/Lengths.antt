@@ -1,22 +1,21 @@
 -- How long each line is: 32 bytes for a call's, 64 for the first.
 use Prim.Native.Nat.{ℕ, zero, suc, _+_, _*_, _-_, _≤_, _<_}
-use mathlib.Core.Path.{_≡_, refl, sym, ap, subst, _∙_}
-use mathlib.Core.List.{List, [], _∷_, _++_}
+use mathlib.Core.Path.{_≡_, refl, ap, subst, _∙_}
+use mathlib.Core.List.{List, [], _++_}
 use mathlib.Core.Bool.{Bool, true, false, cond, _&&_}
 use native.Mathlib.Decide.{decLe}
 use native.Mathlib.Omega.{arith}
 use borrow.Author.Tests.{leb-true, eqb-true}
 use lib.ListN.{length, length-append, replicate}
 use lib.Dec.{eqb, leb}
-use Rattle.rows.specs.declared.Atom.{Atom}
 use Rattle.fit.specs.Rows.{limit}
 use Rattle.parity.specs.declared.System.{System}
 use Rattle.parity.specs.declared.Prepared.{Prepared}
 use Rattle.region.specs.Calls.{holdOf, cutOf}
 use Rattle.region.specs.declared.Answer.{Answer}
 use Rattle.region.specs.declared.Answer.the-variants.{Taken, Same, Against, Refused as Barred}
-use Rattle.inspect.specs.Inspect.{Filled, inspectOf}
-use Rattle.inspect.specs.Run.{Call, hold, cut, State, after}
+use Rattle.inspect.specs.Inspect.{Filled}
+use Rattle.inspect.specs.Run.{Call, State, after}
 use Rattle.inspect.specs.declared.Inspected.{Inspected}
 use Rattle.inspect.specs.declared.Step.{Step}
 use Rattle.inspect.specs.declared.Step.the-variants.{Unchanged, Changed, Refuted, Refused}

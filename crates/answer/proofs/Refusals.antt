@@ -1,8 +1,8 @@
 -- Number and offset of a refusal: at most 8, and at most 65536.
 use Prim.Native.Nat.{ℕ, zero, suc, _+_, _≤_, _<_}
-use mathlib.Core.Path.{_≡_, refl, sym, ap, subst, _∙_}
-use mathlib.Core.List.{List, [], _∷_}
-use mathlib.Core.Bool.{Bool, true, false, cond, _&&_}
+use mathlib.Core.Path.{sym, subst}
+use mathlib.Core.List.{List}
+use mathlib.Core.Bool.{Bool, true, false, _&&_}
 use native.Mathlib.Decide.{decLe}
 use native.Mathlib.Omega.{arith}
 use borrow.Author.Tests.{lt-leb}
@@ -13,11 +13,11 @@ use Rattle.fit.specs.Rows.{limit}
 use Rattle.format.specs.Format.{lengthAt, bodyAt, endAt, nextAt, kindAt, countAt, constantAt, rowAtoms, kAt, tableAtoms, decidedAt, valueAt}
 use Rattle.format.specs.Starts.{starts}
 use Rattle.format.proofs.Offsets.{starts-cons, starts-nil, next-after}
-use Rattle.records.specs.Fault.{noFault, unless, orElse, first}
+use Rattle.records.specs.Fault.{noFault, unless, orElse}
 use Rattle.records.specs.Form.{lengthFault, groupOf, follows, kindFault, tableSize, fitSize, tableSizeFault, sizeFault}
 use Rattle.records.specs.Fields.{goodAtoms, risingAtoms, countFault, atomsFault, rowFault, decisionFault, rangeFault, risingFault}
-use Rattle.records.specs.Rows.{exactAt, rowsAt, exactFault, rowsFault}
-use Rattle.records.specs.Check.{faultAt, nothingSeen, seenAfter, fitWith, refusedFor, checkFrom, fileLimit, fileFault, checkOf}
+use Rattle.records.specs.Rows.{exactAt, rowsAt}
+use Rattle.records.specs.Check.{faultAt, nothingSeen, seenAfter, refusedFor, checkFrom, fileLimit, fileFault, checkOf}
 use Rattle.records.specs.declared.Fault.{Fault}
 use Rattle.records.specs.declared.Seen.{Seen}
 use Rattle.records.specs.declared.Checked.{Checked}

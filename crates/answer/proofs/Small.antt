@@ -1,6 +1,6 @@
 -- The numbers that an inspection and a probe answer are at most 512, for every system, memory and region.
-use Prim.Native.Nat.{ℕ, suc, _+_, _≤_, _<_, min}
-use mathlib.Core.Path.{_≡_, ap, _∙_}
+use Prim.Native.Nat.{ℕ, _+_, _≤_, min}
+use mathlib.Core.Path.{_≡_}
 use mathlib.Core.List.{List, [], _∷_, map}
 use mathlib.Core.Bool.{Bool, true, false, cond, _&&_, _||_}
 use mathlib.Core.Option.{Option, none, some}
@@ -22,10 +22,9 @@ use Rattle.snapshot.specs.Knowledge.{overfullBy}
 use Rattle.snapshot.specs.declared.Snapshot.{Snapshot}
 use Rattle.snapshot.proofs.Chosen.{touched-length}
 use Rattle.inspect.specs.Batch.{Batch, begun, forcedOn, next, applied}
-use Rattle.inspect.specs.Inspect.{Filled, Outcome, found, ended, toldOf, concluded, inspectUnfit, inspectOf}
+use Rattle.inspect.specs.Inspect.{Filled, Outcome, found, ended, inspectUnfit, inspectOf}
 use Rattle.inspect.specs.declared.Inspected.{Inspected}
 use Rattle.inspect.proofs.Inspecting.{forced-few}
-use Rattle.probe.specs.Elimination.{eliminated}
 use Rattle.probe.specs.Probe.{probeUnfit, probeOf}
 use Rattle.probe.specs.declared.Probed.{Probed}
 use Rattle.probe.proofs.Counted.{kept-few}

@@ -1,8 +1,7 @@
 -- The numbers of the system line: at most 512 atoms, rows, rank and units, and at most 512 times 512 additions and incidences.
-use Prim.Native.Nat.{ℕ, zero, suc, _+_, _*_, _≤_, _<_, min}
-use mathlib.Core.Path.{_≡_, sym, ap, _∙_}
-use mathlib.Core.List.{List, [], _∷_, _++_, map}
-use mathlib.Core.Bool.{Bool, true, false, cond, _&&_, _||_}
+use Prim.Native.Nat.{ℕ, zero, suc, _+_, _*_, _≤_}
+use mathlib.Core.List.{List, [], _∷_}
+use mathlib.Core.Bool.{Bool, true, false, _&&_}
 use mathlib.Core.Option.{Option, none, some}
 use native.Mathlib.Nat.{mul-le-mul, suc-mul}
 use native.Mathlib.Omega.{arith}
@@ -14,8 +13,8 @@ use Rattle.rows.specs.Flat.{widthOf, rowAt}
 use Rattle.fit.specs.Rows.{limit, overfull}
 use Rattle.fit.proofs.Among.{or-none}
 use Rattle.fit.proofs.Fitting.{passed}
-use Rattle.echelon.specs.Forward.{find, forward, reduced, State, empty, joined, next, eliminated}
-use Rattle.echelon.specs.Eliminate.{Outcome, rowsTo, written}
+use Rattle.echelon.specs.Forward.{find, forward, reduced, State, empty, joined, eliminated}
+use Rattle.echelon.specs.Eliminate.{rowsTo, written}
 use Rattle.echelon.proofs.Upto.{rows-length}
 use Rattle.index.specs.Index.{columnOf, size, incidencesOf}
 use Rattle.parity.specs.Basis.{basisOf, unitsOf}

@@ -1,5 +1,5 @@
 -- The lines written one after another are the text of a file.
-use Prim.Native.Nat.{ℕ, _+_, _≤_, min}
+use Prim.Native.Nat.{ℕ, _+_, _≤_}
 use mathlib.Core.Path.{_≡_, sym, ap, ap₂, _∙_}
 use mathlib.Core.List.{List, _++_}
 use native.Mathlib.Nat.{zero-add}

@@ -11,7 +11,7 @@ use Rattle.inspect.specs.Promises.{filledBy}
 use Rattle.inspect.specs.Run.{begins}
 use Rattle.format.specs.Starts.{starts}
 use Rattle.records.specs.Check.{checkOf}
-use Rattle.load.specs.Load.{Outcome, loadOf}
+use Rattle.load.specs.Load.{loadOf}
 use Rattle.text.specs.Text.{twoOf}
 use Rattle.lines.specs.Words.{bytes, space, newline}
 use Rattle.lines.specs.Lines.{linesFrom}

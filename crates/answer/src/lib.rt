@@ -4,7 +4,7 @@ ghost use mathlib.Core.Path.{_≡_};
 ghost use Prim.Native.Nat.{_≤_};
 ghost use lib.ListN.{length, take};
 ghost use Rattle.text.specs.Text.{Wrote};
-ghost use Rattle.answer.specs.Text.{refusedLine, systemLine, answersOf, textOf};
+ghost use Rattle.answer.specs.Text.{systemLine, answersOf, textOf};
 ghost use Rattle.answer.specs.Answer.{roomOf, outcome, answerOf};
 
 pub mod promises;

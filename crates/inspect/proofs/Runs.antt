@@ -136,7 +136,7 @@ after-reached p few st is k (c ∷ cs) =
       knows = rest .knows;
     }
 
-after-append : (st : State) (cs ds : List Call) → after st (cs ++ ds) ≡ after (after st cs) ds
+pub after-append : (st : State) (cs ds : List Call) → after st (cs ++ ds) ≡ after (after st cs) ds
 after-append st [] ds = refl
 after-append st (c ∷ cs) ds = after-append (step st c) cs ds
 

@@ -1,13 +1,11 @@
 -- One record's line and call, by its kind.
-use Prim.Native.Nat.{ℕ, _+_, _≤_, min}
+use Prim.Native.Nat.{ℕ, _≤_}
 use mathlib.Core.Path.{_≡_, refl, sym, ap, subst, _∙_}
-use mathlib.Core.List.{List, [], _∷_}
+use mathlib.Core.List.{List}
 use mathlib.Core.Bool.{Bool, cond}
 use native.Mathlib.Omega.{arith}
 use borrow.Author.Tests.{eq-eqb, ne-eqb}
 use lib.ListN.{length, replicate}
-use lib.Dec.{eqb}
-use Rattle.rows.specs.declared.Atom.{Atom}
 use Rattle.fit.specs.Rows.{limit}
 use Rattle.parity.specs.declared.System.{System}
 use Rattle.region.specs.Calls.{holdOf, cutOf}

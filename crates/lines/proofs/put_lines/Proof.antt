@@ -1,6 +1,6 @@
 -- `lines::put_lines` meets its contract: writing the lines that are left writes the whole.
-use Prim.Native.Nat.{ℕ, _-_}
-use mathlib.Core.Path.{_≡_, ap, ap₂, _∙_}
+use Prim.Native.Nat.{_-_}
+use mathlib.Core.Path.{ap, ap₂, _∙_}
 use native.Mathlib.Omega.{arith}
 use lib.ListN.{length}
 use Rattle.region.specs.declared.NewRegion.{NewRegion}

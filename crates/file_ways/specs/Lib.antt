@@ -1,0 +1,2 @@
+-- What the contract of `file_ways` cites.
+pub mod Probes
