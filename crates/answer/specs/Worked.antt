@@ -1,24 +1,8 @@
 -- The worked example of document 01, "A file and its lines".
-use Prim.Native.Nat.{ℕ}
 use mathlib.Core.Path.{_≡_}
-use mathlib.Core.List.{List, [], _∷_, _++_}
-use lib.ListN.{replicate}
+use Rattle.load.specs.Instances.{worked}
 use Rattle.lines.specs.Words.{bytes}
 use Rattle.answer.specs.Text.{textOf}
-
-abbrev pub worked : List ℕ
-worked =
-    4 ∷ 0 ∷ 1 ∷ 0 ∷ 3 ∷ 0
-    ∷ 7 ∷ 0 ∷ 2 ∷ 0 ∷ 1 ∷ 0 ∷ 0 ∷ 1 ∷ 0
-    ∷ 7 ∷ 0 ∷ 2 ∷ 0 ∷ 0 ∷ 1 ∷ 0 ∷ 2 ∷ 0
-    ∷ 23 ∷ 0 ∷ 3 ∷ 0 ∷ 2 ∷ 0 ∷ 0 ∷ 2 ∷ 0 ∷ 9
-    ∷ (replicate 15 0
-    ++ (2 ∷ 0 ∷ 6 ∷ 0
-    ∷ 5 ∷ 0 ∷ 4 ∷ 0 ∷ 1 ∷ 0 ∷ 1
-    ∷ 2 ∷ 0 ∷ 5 ∷ 0
-    ∷ 2 ∷ 0 ∷ 6 ∷ 0
-    ∷ 5 ∷ 0 ∷ 4 ∷ 0 ∷ 0 ∷ 0 ∷ 1
-    ∷ []))
 
 abbrev pub Worked : Type 0
 Worked =
