@@ -1,14 +1,12 @@
 #!/usr/bin/env python3
-"""Packs recorded answers of `propose` and `prepare` into the standard input of the program replay, and the lines it must print.
+"""Packs recorded answers into the standard input of the program replay, and the lines it must print.
 
     tests/pack.py            writes crates/replay/stdin and crates/replay/stdout
     tests/pack.py check      ends with 1 where they are not what it would write
 
-The number of tables in 2 bytes little-endian, as are the words; then the tables, 85 bytes each: k, the number of words, 8 words, then
-number, count, exact, and coefficients and constant of 8 equations; then as many systems of up to 16 atoms and rows as go in, of library
-states and then of files, 602 bytes each: n, m, 16 rows of one word, 16 constants, then number, atoms, rows, rank, refuted, additions,
-units, incidences, and what is left: 16 rows, constants, basis entries, unit atoms and unit values, and 32 words of the index. Cells that
-preparation does not name are 7.
+Numbers are little-endian: 2 bytes, and 8 of a word and of a length in bytes. A list is its length in 2 bytes and then its entries. The input
+has the tables, the library's systems but those of short buffers, and the files, but for cases of more than 65,000 bytes; each of the three is
+the number of its cases, and a case its length in bytes and then what crates/replay/src/tables.rt, systems.rt and files.rt say.
 """
 
 import os
@@ -20,69 +18,101 @@ import reading
 HERE = os.path.dirname(os.path.abspath(__file__))
 RECORDED = os.path.join(HERE, "recorded", "answers.txt")
 REPLAY = os.path.join(HERE, "..", "crates", "replay")
-MOST_BYTES, MOST_ROWS, UNNAMED = 65000, 16, 7
+MOST_BYTES = 65000
+CALLS = {"inspect": 2, "probe": 3}
+
+
+def numbers(*values):
+    return struct.pack(f"<{len(values)}H", *values)
+
+
+def word_list(values):
+    return numbers(len(values)) + struct.pack(f"<{len(values)}Q", *values)
+
+
+def number_list(values):
+    return numbers(len(values), *values)
+
+
+def byte_list(values):
+    return numbers(len(values)) + bytes(values)
+
+
+def counted(data):
+    return struct.pack("<Q", len(data)) + data
 
 
 def pack_table(case, answer):
     """A case `hull k K words W...` with its answer `refused N` or `hull COUNT exact C V...`."""
     _, _, k, _, *words = case.split()
-    given = [int(word, 16) for word in words]
     said = answer[0].split()
     if said[0] == "refused":
         result = [int(said[1]), 0, 0]
     else:
         result = [0, int(said[1]), int(said[2] == "exact"), *map(int, said[3:])]
-    return struct.pack("<BB8Q19B", int(k), len(given), *given, *[0] * (8 - len(given)), *result, *[0] * (19 - len(result)))
+    return numbers(int(k)) + word_list([int(word, 16) for word in words]) + number_list(result + [0] * (19 - len(result)))
 
 
-def system_of(case, answer):
-    """n, m, row words and constants of a recorded preparation, and its answer on one line; or none."""
-    kind, *tokens = case.split()
-    if kind == "prepare":
-        fields = reading.read_fields(tokens)
-        return *fields["size"], fields["rows"], fields["constants"], answer[0]
-    if kind == "file" and answer[0].startswith("system"):
-        n, rows, _ = reading.check_file(bytes.fromhex(tokens[0]))
-        words = [mask for mask, _ in rows] if n else []
-        return n, len(rows), words, [constant for _, constant in rows], " ".join(answer[:2])
-    return None
-
-
-def pack_system(n, m, words, constants, said):
-    def filled(values, count):
-        return [*values, *[UNNAMED] * (count - len(values))]
-
+def pack_prepared(said, left):
+    """What preparation answers, `refused N` or `system ...`, and what it leaves."""
     tokens = said.split()
-    result, left = [int(tokens[1])] + [0] * 7, {"rows": words, "constants": constants, "basis": [], "units": [], "index": []}
+    result = [int(tokens[1])] + [0] * 7
     if tokens[0] == "system":
         atoms, rows, rank, additions, units, incidences = map(int, tokens[1:7])
         result = [0, atoms, rows, rank, int(tokens[7] == "refuted"), additions, units, incidences]
-        left = reading.read_fields(tokens[tokens.index("rows") :])
-    lists = [left["constants"], left["basis"], left["units"][::2], left["units"][1::2]]
-    return struct.pack(
-        "<BB16Q16B8B16Q64B32Q", n, m, *filled(words, 16), *filled(constants, 16), *result, *filled(left["rows"], 16),
-        *(value for values in lists for value in filled(values, 16)), *filled(left["index"], 32),
-    )
+    lists = word_list(left["rows"]), byte_list(left["constants"]), number_list(left["basis"])
+    units = number_list(left["units"][::2]), byte_list(left["units"][1::2])
+    return b"".join([number_list(result), *lists, *units, word_list(left["index"])])
+
+
+def pack_system(case, answer):
+    """A case `prepare size N M rows ... constants ...` with its answer on one line, or none where a buffer is short."""
+    (said,) = answer
+    if said == "refused 9":
+        return None
+    given = reading.read_fields(case.split()[1:])
+    left = {**given, "basis": [], "units": [], "index": []}
+    if said.startswith("system"):
+        left = reading.read_fields(said[said.index("rows") :].split())
+    return numbers(*given["size"]) + word_list(given["rows"]) + byte_list(given["constants"]) + pack_prepared(said, left)
+
+
+def pack_call(line, left):
+    """A line of `swaps` and the internals behind it: the call, region, forced list and knowledge."""
+    kind, *said = line.split()
+    call = [int(said[1]), int(said[0])] if kind == "decide" else [CALLS[kind], 0]
+    forced, known = left["forced"], left["known"]
+    lists = numbers(*call), word_list(left["held"]), word_list(left["cut"]), number_list(forced[::2]), byte_list(forced[1::2])
+    told = number_list([len(forced) // 2, len(known), *known])
+    return b"".join([*lists, told, word_list(left.get("oldheld", [])), word_list(left.get("oldcut", []))])
+
+
+def pack_file(case, answer):
+    """A case `file HEX` with its lines and internals."""
+    internals = [reading.read_fields(line.split()[1:]) for line in answer if line.split()[0] in ("prepared", "after")]
+    lines = [line for line in answer if line.split()[0] not in ("prepared", "after")]
+    text = "".join(line + "\n" for line in lines).encode()
+    packed = counted(bytes.fromhex(case[4:])) + byte_list(text)
+    if internals:
+        packed += pack_prepared(lines[0], internals[0]) + numbers(len(lines) - 1)
+        packed += b"".join(map(pack_call, lines[1:], internals[1:]))
+    return packed
 
 
 def packed():
     with open(RECORDED, encoding="ascii") as recorded:
         blocks = list(reading.blocks(recorded.read()))
-    tables = [pack_table(case, answer) for case, answer in blocks if case.startswith("hull ")]
-    blocks.sort(key=lambda block: block[0].startswith("file"))
-    found = [system for system in (system_of(case, answer) for case, answer in blocks) if system]
-    small = [system for system in found if max(system[:2]) <= MOST_ROWS and system[4] != "refused 9"]
-    systems = list(dict.fromkeys(pack_system(*system) for system in small))
-    room = MOST_BYTES - 2 - sum(map(len, tables))
-    return tables, systems[: room // len(systems[0])]
+    packers = {"propose": ("hull", pack_table), "prepare": ("prepare", pack_system), "files": ("file", pack_file)}
+    for call, (kind, pack) in packers.items():
+        cases = [pack(case, answer) for case, answer in blocks if case.split()[0] == kind]
+        yield call, [case for case in cases if case and len(case) <= MOST_BYTES]
 
 
 def main(mode="write"):
-    tables, systems = packed()
-    counts = {"propose": len(tables), "prepare": len(systems)}
-    said = "".join(f"{count} of {count} recorded answers of {call} agree\n" for call, count in counts.items())
-    files = {"stdin": struct.pack("<H", len(tables)) + b"".join(tables + systems), "stdout": said.encode()}
-    for name, content in files.items():
+    groups = dict(packed())
+    said = "".join(f"{len(cases)} of {len(cases)} recorded answers of {call} agree\n" for call, cases in groups.items())
+    given = b"".join(numbers(len(cases)) + b"".join(map(counted, cases)) for cases in groups.values())
+    for name, content in {"stdin": given, "stdout": said.encode()}.items():
         path = os.path.join(REPLAY, name)
         if mode == "write":
             with open(path, "wb") as file:

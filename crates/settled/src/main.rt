@@ -1,8 +1,10 @@
-// The small settled examples of document 01 that run. Each check is proved besides: `expect` asks for it.
+// The small settled examples of document 01 that run. What is expected of a call is proved besides, since `expect` asks for it; what the check says
+// of files is printed, and held to `stdout`.
 use check::expect;
 use region::Region;
 ghost use mathlib.Core.Path.{_≡_};
 ghost use mathlib.Core.List.{[]};
+ghost use Prim.Native.Nat.{_≤_, _<_};
 ghost use lib.ListN.{replicate};
 ghost use Rattle.parity.specs.Prepare.{lent, prepareUnfit};
 
@@ -30,6 +32,28 @@ fn size_number(n: usize, m: usize) -> usize
     ).number
 }
 
+// Prints what the check says of a file of so many atoms and so many empty rows.
+fn print_checked(atoms: usize, rows: usize)
+    requires { ⌜ (atoms < 65536) × (rows ≤ 513) ⌝ }
+{
+    let mut file = [0u8; 2571];
+    file[0] = 4;
+    file[2] = 1;
+    file[4] = (atoms % 256) as u8;
+    file[5] = (atoms / 256) as u8;
+    let mut i = 0;
+    while i < rows {
+        file[6 + i * 5] = 3;
+        file[8 + i * 5] = 2;
+        i += 1;
+    }
+    let checked = records::check(&file[..6 + rows * 5]);
+    io::print_decimal(1, checked.number as u64);
+    io::write_all(1, b" at ");
+    io::print_decimal(1, checked.offset as u64);
+    io::write_all(1, b"\n");
+}
+
 fn main() {
     let words = [0u64; 5];
     // "k=8 wants 4 words."
@@ -45,4 +69,8 @@ fn main() {
     expect(size_number(0, 513) == 10);
     expect(Region::undecided(512).number == 0);
     expect(Region::undecided(513).number == 10);
+    print_checked(512, 0);
+    print_checked(513, 0);
+    print_checked(0, 512);
+    print_checked(0, 513);
 }

@@ -103,6 +103,18 @@ expect-requires-10 : tie.Need-expect-requires-10
 unfolding undecidedOf
 expect-requires-10 c κs = eq-eqb (c .before .undecided2 .result .number) 10 (ap (λ (r : NewRegion). r .number) (c .before .undecided2 .ensures))
 
+print-checked-requires : tie.Need-print-checked-requires
+print-checked-requires c κs = search needs
+
+print-checked-requires-2 : tie.Need-print-checked-requires-2
+print-checked-requires-2 c κs = search needs
+
+print-checked-requires-3 : tie.Need-print-checked-requires-3
+print-checked-requires-3 c κs = search needs
+
+print-checked-requires-4 : tie.Need-print-checked-requires-4
+print-checked-requires-4 c κs = search needs
+
 returns : tie.Need-returns
 returns c = search needs
 
@@ -137,4 +149,8 @@ main-spec =
     expect-requires-9
     undecided-requires-2
     expect-requires-10
+    print-checked-requires
+    print-checked-requires-2
+    print-checked-requires-3
+    print-checked-requires-4
     returns)

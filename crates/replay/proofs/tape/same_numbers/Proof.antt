@@ -1,21 +1,24 @@
--- `replay::same_numbers` is safe: one turn for each.
+-- `replay::tape::same_numbers` is safe: one turn for each.
 use Prim.Native.Nat.{_-_, _≤_}
 use lib.ListN.{length}
 use borrow.Author.Needs.{needs}
-use Rattle.replay.proofs.same_numbers.Statement.{statement}
-use Rattle.replay.proofs.same_numbers.Tie as tie
+use Rattle.replay.proofs.tape.same_numbers.Statement.{statement}
+use Rattle.replay.proofs.tape.same_numbers.Tie as tie
 
 abbrev Inv-loop : tie.InvT-loop
-Inv-loop input at numbers i₀ i = i ≤ length numbers
+Inv-loop input at count numbers rest i₀ i = i ≤ length numbers
 
 abbrev μ-loop : tie.MeasureT-loop
-μ-loop input at numbers i₀ i = length numbers - i
-
-returns : tie.Need-returns Inv-loop μ-loop
-returns c = search needs
+μ-loop input at count numbers rest i₀ i = length numbers - i
 
 loop-holds : tie.Need-loop-holds Inv-loop μ-loop
 loop-holds c = search needs
+
+mul-short : tie.Need-mul-short Inv-loop μ-loop
+mul-short c = search needs
+
+short-requires : tie.Need-short-requires Inv-loop μ-loop
+short-requires c κs = search needs
 
 mul-if2 : tie.Need-mul-if2 Inv-loop μ-loop
 mul-if2 c = search needs
@@ -23,17 +26,8 @@ mul-if2 c = search needs
 shared-slice-read-if2 : tie.Need-shared-slice-read-if2 Inv-loop μ-loop
 shared-slice-read-if2 c = search needs
 
-add-byte-at : tie.Need-add-byte-at Inv-loop μ-loop
-add-byte-at c = search needs
-
-byte-at-requires : tie.Need-byte-at-requires Inv-loop μ-loop
-byte-at-requires c κs = search needs
-
-cast-if2 : tie.Need-cast-if2 Inv-loop μ-loop
-cast-if2 c = search needs
-
-returns-2 : tie.Need-returns-2 Inv-loop μ-loop
-returns-2 c = search needs
+returns : tie.Need-returns Inv-loop μ-loop
+returns c = search needs
 
 add-i : tie.Need-add-i Inv-loop μ-loop
 add-i c = search needs
@@ -44,8 +38,8 @@ loop-less c = search needs
 loop-again : tie.Need-loop-again Inv-loop μ-loop
 loop-again c = search needs
 
-returns-3 : tie.Need-returns-3 Inv-loop μ-loop
-returns-3 c = search needs
+returns-2 : tie.Need-returns-2 Inv-loop μ-loop
+returns-2 c = search needs
 
 pub same-numbers-spec : {M : Type 1} → statement M
 same-numbers-spec =
@@ -53,15 +47,13 @@ same-numbers-spec =
     (tie.spec
     Inv-loop
     μ-loop
-    returns
     loop-holds
+    mul-short
+    short-requires
     mul-if2
     shared-slice-read-if2
-    add-byte-at
-    byte-at-requires
-    cast-if2
-    returns-2
+    returns
     add-i
     loop-less
     loop-again
-    returns-3)
+    returns-2)

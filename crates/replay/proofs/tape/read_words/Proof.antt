@@ -1,0 +1,84 @@
+-- `replay::tape::read_words` is safe: one turn for each.
+use Prim.Native.Nat.{_-_, _≤_}
+use mathlib.Core.Path.{_≡_}
+use lib.ListN.{length}
+use borrow.Author.Needs.{needs}
+use Rattle.replay.proofs.tape.read_words.Statement.{statement}
+use Rattle.replay.proofs.tape.read_words.Tie as tie
+
+abbrev Inv-loop : tie.InvT-loop
+Inv-loop input at words₀ count from end i₀ words i = (i ≤ count) × (length words ≡ length words₀)
+
+abbrev μ-loop : tie.MeasureT-loop
+μ-loop input at words₀ count from end i₀ words i = count - i
+
+short-requires : tie.Need-short-requires Inv-loop μ-loop
+short-requires c κs = search needs
+
+past-requires : tie.Need-past-requires Inv-loop μ-loop
+past-requires c κs = search needs
+
+mul-past : tie.Need-mul-past Inv-loop μ-loop
+mul-past c = search needs
+
+past-requires-2 : tie.Need-past-requires-2 Inv-loop μ-loop
+past-requires-2 c κs = search needs
+
+loop-holds : tie.Need-loop-holds Inv-loop μ-loop
+loop-holds c = search needs
+
+same-length : tie.Need-same-length Inv-loop μ-loop
+same-length c = search needs
+
+returns : tie.Need-returns Inv-loop μ-loop
+returns c = search needs
+
+mul-word : tie.Need-mul-word Inv-loop μ-loop
+mul-word c = search needs
+
+word-requires : tie.Need-word-requires Inv-loop μ-loop
+word-requires c κs = search needs
+
+mul-words : tie.Need-mul-words Inv-loop μ-loop
+mul-words c = search needs
+
+slice-write-words : tie.Need-slice-write-words Inv-loop μ-loop
+slice-write-words c = search needs
+
+add-i : tie.Need-add-i Inv-loop μ-loop
+add-i c = search needs
+
+loop-less : tie.Need-loop-less Inv-loop μ-loop
+loop-less c = search needs
+
+loop-again : tie.Need-loop-again Inv-loop μ-loop
+loop-again c = search needs
+
+same-length-2 : tie.Need-same-length-2 Inv-loop μ-loop
+same-length-2 c = search needs
+
+returns-2 : tie.Need-returns-2 Inv-loop μ-loop
+returns-2 c = search needs
+
+pub read-words-spec : {M : Type 1} → statement M
+read-words-spec =
+    tie.close
+    (tie.spec
+    Inv-loop
+    μ-loop
+    short-requires
+    past-requires
+    mul-past
+    past-requires-2
+    loop-holds
+    same-length
+    returns
+    mul-word
+    word-requires
+    mul-words
+    slice-write-words
+    add-i
+    loop-less
+    loop-again
+    same-length-2
+    returns-2)
