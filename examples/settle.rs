@@ -105,7 +105,9 @@ fn main() -> Result<(), Refusal> {
     lend_too_little();
 
     // atoms 2, row 1: 0 1, decide 0 1, inspect, probe
-    let mut file = *b"\x04\0\x01\0\x02\0\x07\0\x02\0\x01\0\0\x01\0\x05\0\x04\0\0\0\x01\x02\0\x05\0\x02\0\x06\0";
+    let mut file = [
+        4, 0, 1, 0, 2, 0, 7, 0, 2, 0, 1, 0, 0, 1, 0, 5, 0, 4, 0, 0, 0, 1, 2, 0, 5, 0, 2, 0, 6, 0,
+    ];
     print!("a file:\n{}", answer(&file));
     file[13] = 2; // its row names atom 2, which is not there
     print!("a file with a fault:\n{}", answer(&file));
