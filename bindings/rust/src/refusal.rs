@@ -10,7 +10,7 @@ impl Refusal {
     /// What the number says, in words; docs/FORMAT.md has more on 1 to 8, and what to do.
     pub fn meaning(self) -> &'static str {
         match self.0 {
-            1 => "the length of a record is below 2 or goes past the end of the file",
+            1 => "the length of a record is missing, is below 2 or goes past the end of the file",
             2 => "the kind of a record is unknown, or out of order",
             3 => "the body of a record is not as long as its kind wants it",
             4 => "a value is out of bounds",
@@ -20,7 +20,7 @@ impl Refusal {
             8 => "the file has more than 65,536 bytes",
             9 => "a buffer is too short",
             10 => "there are more than 512 atoms or rows",
-            11 => "a bit is set at the atom count or above, or a constant is above 1",
+            11 => "a row or a region has a bit at its atom count or above, or a constant is above 1",
             12 => "an atom is held and cut",
             13 => "the rank is above the atoms or the rows, or a basis entry is not below the rows",
             14 => "the index has a bit at the rank or above",

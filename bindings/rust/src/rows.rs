@@ -1,6 +1,6 @@
 //! Rows, one after the other in one slice: row r of width w is the words r * w to r * w + w - 1, and its constant is byte r of the constants.
 //!
-//! And tables: [`propose`] gives the equations of one, [`write`] makes rows of them.
+//! And tables: [`propose`] gives the equations of one, [`write()`] makes rows of them.
 use crate::raw;
 use crate::refusal::{unknown, Refusal, Unfit};
 use crate::sets::{answered, value};

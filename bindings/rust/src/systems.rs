@@ -144,7 +144,7 @@ impl<'a> Lent<'a> {
     }
 
     /// The basis rows that have an atom settled since the knowledge was published, by their places; all of them where none was.
-    /// Refused: 9 to 16, as the header has them.
+    /// [`sets::atoms`](crate::sets::atoms) of its words lists them. Refused: 9 to 16, as the header has them.
     pub fn touched(&self, region: &Region, known: &Snapshot) -> Result<Ordinals, Refusal> {
         // SAFETY: a slice is not null, is aligned and has its length.
         let selected = unsafe { raw::worzubil_touched(self.system, self.index.as_ptr(), self.index.len(), *region, *known) };
