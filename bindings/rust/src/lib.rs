@@ -1,12 +1,12 @@
 //! A safe wrapper of the calls that include/worzubil.h declares: the parity core of a double star catalogue.
 //!
 //! Atoms are the measures of a group, numbered from 0; true means swapped. Rows say of some atoms that an odd or an even number is true.
-//! [`Rows`] takes them as they are handed in, [`Prepared`] holds them reduced, [`Region`] which atoms are settled, [`Snapshot`] what was known
-//! of that at the last inspection. [`Prepared::inspect`] forces what follows from single rows, and [`Prepared::probe`] says in how many ways
-//! the rest can come out. [`answer`] does it all for a file of records.
+//! [`Rows`] takes them as they are handed in, [`Prepared`] holds them reduced, [`Region`] which atoms are settled, [`Snapshot`] what was
+//! known of that at the last inspection. [`Prepared::inspect`] forces what follows from single rows, and [`Prepared::probe`] says in how
+//! many ways the rest can come out. [`answer`] does it all for a file of records.
 //!
-//! Any number is taken for any parameter, and every call ends. What is unfit changes nothing, and comes back as a [`Refusal`], whose number is
-//! the header's, or as [`Unfit`]. A call panics only where the archive that is linked is not that of the header.
+//! Any number is taken for any parameter, and every call ends. What is unfit changes nothing, and comes back as a [`Refusal`], whose number
+//! is the header's, or as [`Unfit`]. A call panics only where the archive that is linked is not that of the header.
 //!
 //! ```
 //! use worzubil::{Decision, Refusal, Region, Rows, Snapshot};

@@ -81,7 +81,7 @@ pub struct Inspection {
     pub held: usize,
     /// And as false.
     pub cut: usize,
-    /// The entries of the forced list that were written.
+    /// The entries of the forced list that were written; with `Refuted` some or all of them may not be settled.
     pub forced: usize,
 }
 

@@ -10,8 +10,8 @@ const HEADER: &str = include_str!("../../../include/worzubil.h");
 const RAW: &str = include_str!("../src/raw.rs");
 const LENGTHS: [usize; 6] = [0, 1, 65535, 65536, 65537, usize::MAX];
 
-/// A line of a C program, and what it should print.
-type Line = (String, String);
+/// What is told, what Rust makes of it, and the expression that C makes of it.
+type Fact = (String, usize, String);
 
 fn size_of_field<T, F>(_: impl FnOnce(&T) -> &F) -> usize {
     size_of::<F>()
@@ -44,8 +44,7 @@ macro_rules! constants {
     };
 }
 
-/// What is told, what Rust makes of it, and the expression that C makes of it.
-fn facts() -> Vec<(String, usize, String)> {
+fn facts() -> Vec<Fact> {
     let mut facts = structs! {
         Answer worzubil_answer { kind value }
         Located worzubil_located { word bit }
@@ -87,7 +86,8 @@ fn facts() -> Vec<(String, usize, String)> {
     facts
 }
 
-fn line((what, number, expression): (String, usize, String)) -> Line {
+/// A line of a C program, and what it should print.
+fn line((what, number, expression): Fact) -> (String, String) {
     (format!("    printf(\"{what} %zu\\n\", (size_t)({expression}));\n"), format!("{what} {number}\n"))
 }
 
