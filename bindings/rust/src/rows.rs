@@ -72,6 +72,8 @@ pub fn propose(k: usize, forbidden: &[u64]) -> Result<Hull, Refusal> {
 
 /// Writes a hull's equations as rows of `width` words over the atoms named, from row `first` on, with their constants. Unfit unless all of
 /// them lie within what is lent, every name is below width * 64 and the count is at most 8.
+/// The rows say what the table says only where the names are as many as its atoms and all differ, which is not asked;
+/// [`Rows::push_table`](crate::Rows::push_table) asks it.
 pub fn write(hull: &Hull, names: &[usize], width: usize, rows: &mut [u64], constants: &mut [u8], first: usize) -> Result<(), Unfit> {
     // SAFETY: slices are not null, are aligned and have their lengths; the changed ones are lent by `&mut`, so they overlap no other.
     Unfit::unless(unsafe {
