@@ -7,7 +7,7 @@
  * A buffer is a pointer and then its length in elements. The pointer is not NULL and is aligned for its element, also where
  * the length is 0; a buffer that a call changes overlaps no other of that call. Nothing outside a buffer is read or written,
  * no call keeps a pointer, and every call ends. Any number is taken for any parameter: what is unfit changes nothing, and the
- * answer says so. */
+ * answer says so; where more than one number applies, it is the first in the call's list. */
 #ifndef WORZUBIL_H
 #define WORZUBIL_H
 
@@ -133,7 +133,7 @@ typedef struct {
     bool constant;
 } worzubil_equation;
 
-/* The equations of a table; those from `count` on are 0. */
+/* The equations of a table; those from `count` on are 0. They allow all that the table allows; where they are exact they allow nothing else. */
 typedef struct {
     worzubil_equation equations[8];
     size_t count;
@@ -146,12 +146,13 @@ typedef struct {
     worzubil_hull hull;
 } worzubil_proposal;
 
-/* The equations of a table of k atoms, 0 to 8. The table has 2 * ceil(2^k / 128) words; any other length gets 17, as does k above 8. */
+/* The equations of a table of k atoms, 0 to 8. Bit p % 64 of word p / 64 is set where pattern p is forbidden, and bit i of a pattern is the
+ * value of the i-th atom named. forbidden: just 2 * ceil(2^k / 128) words; any other length gets 17, as does k above 8. */
 worzubil_proposal worzubil_propose(size_t k, const uint64_t *forbidden, size_t forbidden_length);
 
-/* Writes a hull's equations as rows of `width` words over the atoms named, from row `first` on, with their constants. False, and nothing
-   written, unless the rows hold (first + count) * width words, the constants first + count bytes, every name is below width * 64 and
-   the count is at most 8. */
+/* Writes a hull's equations as rows of `width` words over the atoms named, from row `first` on, with their constants: true. names: the k
+ * atoms of the table, each once; with fewer, or one twice, rows are written that say something else. rows: (first + count) * width words;
+ * constants: first + count bytes; where one is shorter, a name is not below width * 64 or the count is above 8, nothing is written: false. */
 bool worzubil_write(worzubil_hull hull, const size_t *names, size_t names_length, size_t width, uint64_t *rows, size_t rows_length,
                     uint8_t *constants, size_t constants_length, size_t first);
 
@@ -290,7 +291,7 @@ typedef struct {
     size_t number;
     size_t held;   /* the atoms settled as true */
     size_t cut;    /* and as false */
-    size_t forced; /* the entries of the forced list */
+    size_t forced; /* the entries of the forced list; with WORZUBIL_REFUTED not all of them may be settled */
     worzubil_region region;
     worzubil_snapshot known;
 } worzubil_inspection;
@@ -333,7 +334,7 @@ worzubil_probed worzubil_probe(worzubil_system system, const uint64_t *rows, siz
 
 /* ---- files */
 
-/* What the check of a file says: number 0 with its atoms and rows; else the refusal's number and the place in the file, and no rows. */
+/* What the check of a file says: number 0 with its atoms and rows; else the refusal's number and the place in the file, and 0 for both. */
 typedef struct {
     size_t number;
     size_t offset;
@@ -345,7 +346,7 @@ typedef struct {
 worzubil_checked worzubil_check(const uint8_t *file, size_t file_length);
 
 /* Checks a file and writes its rows, as worzubil_prepare takes them. Nothing is written where the file is refused.
- * For m rows of n atoms, as the check tells them, rows: m * worzubil_width(n) words; constants: m bytes; else 9. */
+ * For m rows of n atoms, as the check tells them, rows: m * worzubil_width(n) words; constants: m bytes; else 9, at 0. */
 worzubil_checked worzubil_load(const uint8_t *file, size_t file_length, uint64_t *rows, size_t rows_length, uint8_t *constants,
                                size_t constants_length);
 
