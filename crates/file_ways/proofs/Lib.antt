@@ -1,3 +1,4 @@
--- The laws behind the promise of this crate.
+-- The laws behind the promises of this crate.
 pub mod Settings
 pub mod Points
+pub mod Answering

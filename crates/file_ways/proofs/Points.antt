@@ -70,6 +70,7 @@ probes-counted file before later o taken at six =
           (cut-at file before o later (begins n)
           ∙ ap₂ (λ (l : List ℕ) (st : State). linesOf file (begins n) before ++ (l ++ linesOf file st later)) (probe-line file before o six) (probe-calls file o six here))
           ∙ sym (append-assoc (systemLine (prepared file .0)) (linesOf file (begins n) before) _),
+      told .0,
       told .2,
       told .3,
     )

@@ -1,2 +1,3 @@
--- What the contract of `file_ways` cites.
+-- What the contracts of `file_ways` cites.
 pub mod Probes
+pub mod Calls

@@ -45,13 +45,14 @@ module _ (file : List ℕ) where
   abbrev pub waysAfter : List ℕ → ℕ
   waysAfter os = count (checkOf file .atoms) (way (partsOf file) (begins (checkOf file .atoms)) (callsOf os))
 
--- In a file that is taken, at a record of kind 6: its line stands after those of the records before it, and where it says yes, u and k there
--- are 2^(u - k) ways, where it says no there is none.
+-- In a file that is taken, at a record of kind 6: its line stands after those of the records before it, the probe is not refused, and where it
+-- says yes, u and k there are 2^(u - k) ways, where it says no there is none.
 abbrev pub ProbesCounted : Type 0
 ProbesCounted = (file before later : List ℕ) (o : ℕ) → checkOf file .number ≡ 0 → starts file 0 ≡ before ++ (o ∷ later) → kindAt file o ≡ 6
     → let q = probed file before in
     (textOf file
     ≡ (systemLine (prepared file .0) ++ linesOf file (begins (checkOf file .atoms)) before)
     ++ (probeLine q ++ linesOf file (stateAfter file before) later))
+    × (q .number ≡ 0)
     × (q .yes ≡ true → (q .kept ≤ q .undecided) × (waysAfter file before ≡ 2 ^ (q .undecided - q .kept)))
     × (q .yes ≡ false → waysAfter file before ≡ 0)
