@@ -45,12 +45,12 @@ fn put_decided(
         };
     }
     let cut = region.cut(Atom(atom));
-    let after = cut.region;
+    let with_cut = cut.region;
     let answer = cut.answer;
     let place = print::put_decision(out, at, atom, 0, answer);
     Placed {
         place,
-        region: after,
+        region: with_cut,
         known,
     }
 }
