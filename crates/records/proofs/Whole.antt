@@ -78,7 +78,7 @@ all-counted file (o ∷ os) seen e =
 
 -- a file without a fault comes to the fold over all its records
 module _ (file : List ℕ) (e : checkOf file .number ≡ 0) where
-  pub whole : checkOf file ≡ checkFrom file nothingSeen (starts file 0)
+  whole : checkOf file ≡ checkFrom file nothingSeen (starts file 0)
   unfolding checkOf
   whole = go (eqb (fileFault file .number) 0) refl
     where
