@@ -9,6 +9,11 @@ pub chosen : {A : Type 0} (P : A → Type 0) (t : Bool) {x y : A} → P x → P 
 chosen P true a b = a
 chosen P false a b = b
 
+-- each where it is chosen
+pub chosen-by : {A : Type 0} (P : A → Type 0) (t : Bool) {x y : A} → (t ≡ true → P x) → (t ≡ false → P y) → P (cond t x y)
+chosen-by P true a b = a refl
+chosen-by P false a b = b refl
+
 -- a call's answer, where it is not refused, and its refusals
 pub answered : {A : Type 0} (P : A → Type 0) (k : ℕ) {x : A} {f : ℕ → A} → (k ≡ 0 → P x) → ((j : ℕ) → P (f j)) → P (orRefused k x f)
 answered P zero a b = a refl

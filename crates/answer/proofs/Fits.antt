@@ -1,8 +1,7 @@
 -- The text of every file has room.
 use Prim.Native.Nat.{ℕ, _+_, _*_, _≤_, _<_}
-use mathlib.Core.Path.{_≡_, refl}
+use mathlib.Core.Path.{_≡_}
 use mathlib.Core.List.{List}
-use mathlib.Core.Bool.{Bool, true, false, cond}
 use native.Mathlib.Decide.{decLe}
 use native.Mathlib.Omega.{arith}
 use borrow.Author.Tests.{eqb-true, lt-leb}
@@ -16,9 +15,10 @@ use Rattle.records.specs.Check.{nothingSeen, fileLimit, checkOf}
 use Rattle.records.proofs.Whole.{none}
 use Rattle.load.specs.Load.{loadOf}
 use Rattle.lines.specs.Lines.{linesFrom}
-use Rattle.answer.specs.Text.{refusedLine, systemLine, noWords, noEntries, memoryOf, answersOf, textOf}
+use Rattle.answer.specs.Text.{systemLine, noWords, noEntries, memoryOf, answersOf, textOf}
 use Rattle.answer.specs.Answer.{roomOf}
 use Rattle.answer.specs.Promises.{TextFits}
+use Rattle.answer.proofs.Choices.{chosen-by}
 use Rattle.answer.proofs.Systems.{prepared-bounded}
 use Rattle.answer.proofs.Refusals.{check-small}
 use Rattle.answer.proofs.Lengths.{refused-long, system-long, lines-long}
@@ -50,16 +50,9 @@ answers-long file n m ws cs e =
 
 pub text-fits : TextFits
 unfolding textOf
-text-fits file = go (eqb (checkOf file .number) 0) refl
-  where
-    go : (t : Bool) → eqb (checkOf file .number) 0 ≡ t
-        → length (cond t (answersOf file (checkOf file .atoms) (checkOf file .rows) (loadOf file noWords noEntries .rows) (loadOf file noWords noEntries .constants)) (refusedLine (checkOf file .number) (checkOf file .offset)))
-        ≤ roomOf (length file)
-    go true z =
-        let e = eqb-true _ _ z in
-        omega (
-          arith,
-          taken-few file e,
-          answers-long file (checkOf file .atoms) (checkOf file .rows) (loadOf file noWords noEntries .rows) (loadOf file noWords noEntries .constants) e,
-        )
-    go false z = omega (arith, refused-long (checkOf file) (check-small file))
+text-fits file =
+    let c = checkOf file in
+    let o = loadOf file noWords noEntries in
+    chosen-by (λ (text : List ℕ). length text ≤ roomOf (length file)) (eqb (c .number) 0)
+    (λ z. let e = eqb-true _ _ z in omega (arith, taken-few file e, answers-long file (c .atoms) (c .rows) (o .rows) (o .constants) e))
+    (λ z. omega (arith, refused-long c (check-small file)))
