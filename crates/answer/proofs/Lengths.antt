@@ -24,11 +24,11 @@ use Rattle.probe.specs.declared.Probed.{Probed}
 use Rattle.format.specs.Format.{lengthAt, endAt, nextAt, kindAt, decidedAt, valueAt}
 use Rattle.format.specs.Starts.{starts}
 use Rattle.format.proofs.Offsets.{starts-cons}
-use Rattle.records.specs.Form.{lengthFault}
+use Rattle.record.specs.Form.{lengthFault}
 use Rattle.records.specs.Check.{seenAfter, checkFrom}
 use Rattle.records.specs.declared.Seen.{Seen}
 use Rattle.records.specs.declared.Checked.{Checked}
-use Rattle.records.proofs.Chain.{unless-none}
+use Rattle.record.proofs.Chain.{unless-none}
 use Rattle.records.proofs.Passed.{Passed, record-fit, atoms-within}
 use Rattle.records.proofs.Whole.{turned}
 use Rattle.text.specs.Text.{twoOf}

@@ -13,12 +13,12 @@ use Rattle.fit.specs.Rows.{limit}
 use Rattle.format.specs.Format.{lengthAt, bodyAt, endAt, nextAt, kindAt, countAt, constantAt, rowAtoms, kAt, tableAtoms, decidedAt, valueAt}
 use Rattle.format.specs.Starts.{starts}
 use Rattle.format.proofs.Offsets.{starts-cons, starts-nil, next-after}
-use Rattle.records.specs.Fault.{noFault, unless, orElse}
-use Rattle.records.specs.Form.{lengthFault, groupOf, follows, kindFault, tableSize, fitSize, tableSizeFault, sizeFault}
-use Rattle.records.specs.Fields.{goodAtoms, risingAtoms, countFault, atomsFault, rowFault, decisionFault, rangeFault, risingFault}
+use Rattle.record.specs.Fault.{noFault, unless, orElse}
+use Rattle.record.specs.Form.{lengthFault, groupOf, follows, kindFault, tableSize, fitSize, tableSizeFault, sizeFault}
+use Rattle.record.specs.Fields.{goodAtoms, risingAtoms, countFault, atomsFault, rowFault, decisionFault, rangeFault, risingFault}
 use Rattle.records.specs.Rows.{exactAt, rowsAt}
 use Rattle.records.specs.Check.{faultAt, nothingSeen, seenAfter, refusedFor, checkFrom, fileLimit, fileFault, checkOf}
-use Rattle.records.specs.declared.Fault.{Fault}
+use Rattle.record.specs.declared.Fault.{Fault}
 use Rattle.records.specs.declared.Seen.{Seen}
 use Rattle.records.specs.declared.Checked.{Checked}
 use Rattle.answer.proofs.Choices.{chosen}

@@ -11,16 +11,16 @@ use Rattle.fit.specs.Rows.{limit}
 use Rattle.format.specs.Format.{kindAt, nextAt, bodyAt, countAt, kAt}
 use Rattle.format.specs.Starts.{starts}
 use Rattle.format.proofs.Offsets.{starts-nil, starts-cons}
-use Rattle.records.specs.Fault.{unless, orElse, first}
-use Rattle.records.specs.Form.{lengthFault, groupOf, kindFault, fitSize, tableSize, tableSizeFault, sizeFault}
-use Rattle.records.specs.Fields.{rangeFault, risingFault}
+use Rattle.record.specs.Fault.{unless, orElse, first}
+use Rattle.record.specs.Form.{lengthFault, groupOf, kindFault, fitSize, tableSize, tableSizeFault, sizeFault}
+use Rattle.record.specs.Fields.{rangeFault, risingFault}
 use Rattle.records.specs.Rows.{exactAt, rowsAt, exactFault, rowsFault}
 use Rattle.records.specs.Check.{faultAt, seenAfter, fitWith, refusedFor, checkFrom}
 use Rattle.records.specs.Steps.{earlyFault, lateFault, stepOf}
-use Rattle.records.specs.declared.Fault.{Fault}
+use Rattle.record.specs.declared.Fault.{Fault}
 use Rattle.records.specs.declared.Seen.{Seen}
 use Rattle.records.specs.declared.Step.{Step}
-use Rattle.records.proofs.Chain.{first-both, head-none, tail-none, unless-none}
+use Rattle.record.proofs.Chain.{first-both, head-none, tail-none, unless-none}
 
 module _ (file : List ℕ) (seen : Seen) (o : ℕ) where
   pub fold-more : (os : List ℕ) → faultAt file seen o .number ≡ 0 → checkFrom file seen (o ∷ os) ≡ checkFrom file (seenAfter file seen o) os

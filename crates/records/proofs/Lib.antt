@@ -1,6 +1,4 @@
--- Laws on checks and lists of atoms, for the proofs of this crate and of those above it.
-pub mod Chain
-pub mod Leading
+-- Laws on whole files, for the proofs of this crate and of those above it.
 pub mod Folds
 pub mod Passed
 pub mod Whole

@@ -13,14 +13,14 @@ use Rattle.embed.specs.Embed.{Rising}
 use Rattle.fit.specs.Rows.{limit}
 use Rattle.format.specs.Format.{kindAt, countAt, constantAt, rowAtoms, kAt, tableAtoms, decidedAt, valueAt, atomAt}
 use Rattle.format.proofs.Listing.{list-length}
-use Rattle.records.specs.Fault.{unless, orElse}
-use Rattle.records.specs.Form.{lengthFault, groupOf, follows, kindFault, sizeFault}
-use Rattle.records.specs.Fields.{goodAtoms, risingAtoms, countFault, atomsFault, rowFault, decisionFault, rangeFault, risingFault}
+use Rattle.record.specs.Fault.{unless, orElse}
+use Rattle.record.specs.Form.{lengthFault, groupOf, follows, kindFault, sizeFault}
+use Rattle.record.specs.Fields.{goodAtoms, risingAtoms, countFault, atomsFault, rowFault, decisionFault, rangeFault, risingFault}
 use Rattle.records.specs.Rows.{exactAt, rowsAt, exactFault, rowsFault}
 use Rattle.records.specs.Check.{faultAt, seenAfter}
 use Rattle.records.specs.Promises.{AllBelow, RecordFit}
 use Rattle.records.specs.declared.Seen.{Seen}
-use Rattle.records.proofs.Chain.{head-none, tail-none, unless-none}
+use Rattle.record.proofs.Chain.{head-none, tail-none, unless-none}
 use Rattle.records.proofs.Folds.{sized}
 
 pub record Passed (file : List ℕ) (seen : Seen) (o : ℕ) : Type 0 where

@@ -6,11 +6,11 @@ use lib.ListN.{length}
 use lib.Dec.{eqb, leb}
 use Rattle.format.specs.Format.{kindAt, countAt}
 use Rattle.format.specs.Starts.{starts}
-use Rattle.records.specs.Fault.{unless, first}
-use Rattle.records.specs.Form.{lengthFault, groupOf, kindFault, sizeFault}
-use Rattle.records.specs.Fields.{rangeFault, risingFault}
+use Rattle.record.specs.Fault.{unless, first}
+use Rattle.record.specs.Form.{lengthFault, groupOf, kindFault, sizeFault}
+use Rattle.record.specs.Fields.{rangeFault, risingFault}
 use Rattle.records.specs.Rows.{exactAt, rowsAt, exactFault, rowsFault}
-use Rattle.records.specs.declared.Fault.{Fault}
+use Rattle.record.specs.declared.Fault.{Fault}
 use Rattle.records.specs.declared.Seen.{Seen}
 use Rattle.records.specs.declared.Checked.{Checked}
 

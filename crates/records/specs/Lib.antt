@@ -1,7 +1,4 @@
 -- What the contracts of `records` cite, in the order to read it.
-pub mod Fault
-pub mod Form
-pub mod Fields
 pub mod Rows
 pub mod Check
 pub mod Promises

@@ -7,8 +7,8 @@ use lib.Dec.{eqb, leb}
 use Rattle.hull.specs.Equations.{Hulled, hullOf}
 use Rattle.fit.specs.Rows.{limit}
 use Rattle.format.specs.Format.{kAt, tableAt}
-use Rattle.records.specs.Fault.{unless}
-use Rattle.records.specs.declared.Fault.{Fault}
+use Rattle.record.specs.Fault.{unless}
+use Rattle.record.specs.declared.Fault.{Fault}
 
 -- "A table becomes its hull's equations, in its place."
 abbrev pub hullAt : List ℕ → ℕ → Hulled

@@ -3,12 +3,12 @@ use Prim.Native.Nat.{ℕ}
 use mathlib.Core.List.{List, [], _∷_}
 use mathlib.Core.Bool.{Bool, cond}
 use lib.Dec.{eqb}
-use Rattle.records.specs.Fault.{first}
-use Rattle.records.specs.Form.{lengthFault, kindFault, sizeFault}
-use Rattle.records.specs.Fields.{rangeFault, risingFault}
+use Rattle.record.specs.Fault.{first}
+use Rattle.record.specs.Form.{lengthFault, kindFault, sizeFault}
+use Rattle.record.specs.Fields.{rangeFault, risingFault}
 use Rattle.records.specs.Rows.{exactFault, rowsFault}
 use Rattle.records.specs.Check.{faultAt, seenAfter}
-use Rattle.records.specs.declared.Fault.{Fault}
+use Rattle.record.specs.declared.Fault.{Fault}
 use Rattle.records.specs.declared.Seen.{Seen}
 use Rattle.records.specs.declared.Step.{Step}
 

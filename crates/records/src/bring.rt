@@ -1,7 +1,7 @@
 // The rows that a record brings, and their checks: a table exact (6), and not too many rows (7).
 use super::Brought;
-use super::Fault;
-use super::faults;
+use record::Fault;
+use record::faults;
 ghost use mathlib.Core.Path.{_≡_};
 ghost use Prim.Native.Nat.{_+_, _≤_};
 ghost use lib.Dec.{leb};

@@ -1,4 +1,5 @@
 // The check of a file of records: document 01's numbers for the sender of a file, 1 to 8, each with its offset.
+use record::Fault;
 ghost use mathlib.Core.Path.{_≡_};
 ghost use mathlib.Core.Bool.{cond};
 ghost use lib.Dec.{eqb};
@@ -8,16 +9,7 @@ ghost use Rattle.records.specs.Check.{nothingSeen, refusedFor, checkFrom
 ghost use Rattle.records.specs.Steps.{earlyFault, stepOf};
 
 mod bring;
-mod faults;
-mod fields;
-mod form;
 pub mod promises;
-
-// A fault's number and offset; where there is none the number is 0.
-pub struct Fault {
-    pub number: usize,
-    pub offset: usize,
-}
 
 // What was seen of the records so far: the group of the last one's kind, the atom count, and the rows.
 pub struct Seen {
@@ -62,23 +54,23 @@ fn refused(fault: Fault) -> Checked
 fn early_fault(file: &[u8], kind: usize, seen: Seen, o: usize) -> Fault
     ensures { λ r. ⌜ r ≡ earlyFault (now (file .entry)) kind seen o ⌝ }
 {
-    let length = form::length_fault(file, o);
+    let length = record::form::length_fault(file, o);
     if length.number != 0 {
         return length;
     }
-    let order = form::kind_fault(seen.group, kind, o);
+    let order = record::form::kind_fault(seen.group, kind, o);
     if order.number != 0 {
         return order;
     }
-    let size = form::size_fault(file, kind, o);
+    let size = record::form::size_fault(file, kind, o);
     if size.number != 0 {
         return size;
     }
-    let range = fields::range_fault(file, kind, seen.atoms, o);
+    let range = record::fields::range_fault(file, kind, seen.atoms, o);
     if range.number != 0 {
         return range;
     }
-    fields::rising_fault(file, kind, o)
+    record::fields::rising_fault(file, kind, o)
 }
 
 // The atom count, once a record is seen.
@@ -114,7 +106,7 @@ fn check_record(file: &[u8], seen: Seen, o: usize) -> Step
     Step {
         fault: late,
         seen: Seen {
-            group: form::group(kind),
+            group: record::form::group(kind),
             atoms: atoms_after(file, kind, seen.atoms, o),
             rows: seen.rows + brought.rows,
         },

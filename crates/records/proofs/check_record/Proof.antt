@@ -4,12 +4,12 @@ use mathlib.Core.Path.{_≡_, sym, ap, ap₂, _∙_}
 use mathlib.Core.List.{List}
 use mathlib.Core.Bool.{Bool}
 use native.Mathlib.Omega.{arith}
-use Rattle.records.proofs.Chain.{stop, pass}
+use Rattle.record.proofs.Chain.{stop, pass}
 use Rattle.records.proofs.Folds.{early-sized, fault-both, seen-made, few-rows, step-stop, step-more}
 use Rattle.records.specs.Check.{faultAt}
 use Rattle.records.specs.Rows.{exactAt, rowsAt}
 use Rattle.records.specs.Steps.{lateFault}
-use Rattle.records.specs.declared.Fault.{Fault}
+use Rattle.record.specs.declared.Fault.{Fault}
 use Rattle.records.specs.declared.Seen.{Seen}
 use borrow.Author.Needs.{needs}
 use Rattle.records.proofs.check_record.Statement.{statement}

@@ -5,7 +5,7 @@ use native.Mathlib.Omega.{arith}
 use lib.ListN.{length}
 use Rattle.records.proofs.Folds.{step-fault, step-seen, check-end, check-more, check-stop}
 use Rattle.records.specs.Check.{nothingSeen, checkFrom, refusedFor}
-use Rattle.records.specs.declared.Fault.{Fault}
+use Rattle.record.specs.declared.Fault.{Fault}
 use Rattle.records.specs.declared.Seen.{Seen}
 use Rattle.format.specs.Starts.{starts}
 use Rattle.format.proofs.Offsets.{next-after}

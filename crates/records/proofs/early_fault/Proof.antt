@@ -1,6 +1,6 @@
 -- `records::early_fault` meets its contract: each fault stops the checks.
 use lib.ListN.{length}
-use Rattle.records.proofs.Chain.{stop, pass}
+use Rattle.record.proofs.Chain.{stop, pass}
 use borrow.Author.Needs.{needs}
 use Rattle.records.proofs.early_fault.Statement.{statement}
 use Rattle.records.proofs.early_fault.Tie as tie

@@ -23,8 +23,8 @@ use Rattle.probe.specs.Elimination.{reducedBy, keptFrom}
 use Rattle.probe.specs.Probe.{probeUnfit, probeOf}
 use Rattle.format.specs.Bytes.{shortAt, wordAt, listFrom}
 use Rattle.format.specs.Starts.{startsFrom, starts}
-use Rattle.records.specs.Form.{lengthFault, kindFault, tableSizeFault, sizeFault}
-use Rattle.records.specs.Fields.{goodAtoms, risingAtoms, countFault, atomsFault, rowFault, decisionFault, rangeFault, risingFault}
+use Rattle.record.specs.Form.{lengthFault, kindFault, tableSizeFault, sizeFault}
+use Rattle.record.specs.Fields.{goodAtoms, risingAtoms, countFault, atomsFault, rowFault, decisionFault, rangeFault, risingFault}
 use Rattle.records.specs.Rows.{exactAt, rowsAt}
 use Rattle.records.specs.Check.{faultAt, seenAfter, checkFrom, checkOf}
 use Rattle.load.specs.Parts.{setNamed, partsAt, partsFrom}

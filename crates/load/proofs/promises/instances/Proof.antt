@@ -8,8 +8,8 @@ use Rattle.hull.specs.Equations.{enter, pivotsFrom, hullFrom, hullOf}
 use Rattle.echelon.specs.Eliminate.{wordsOf, constantsOf}
 use Rattle.format.specs.Bytes.{shortAt, wordAt, listFrom}
 use Rattle.format.specs.Starts.{startsFrom, starts}
-use Rattle.records.specs.Form.{lengthFault, kindFault, tableSizeFault, sizeFault}
-use Rattle.records.specs.Fields.{goodAtoms, risingAtoms, countFault, atomsFault, rowFault, decisionFault, rangeFault, risingFault}
+use Rattle.record.specs.Form.{lengthFault, kindFault, tableSizeFault, sizeFault}
+use Rattle.record.specs.Fields.{goodAtoms, risingAtoms, countFault, atomsFault, rowFault, decisionFault, rangeFault, risingFault}
 use Rattle.records.specs.Rows.{exactAt, rowsAt}
 use Rattle.records.specs.Check.{faultAt, seenAfter, checkFrom, checkOf}
 use Rattle.load.specs.Parts.{setNamed, partsAt, partsFrom}

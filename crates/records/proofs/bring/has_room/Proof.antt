@@ -3,7 +3,7 @@ use Prim.Native.Nat.{_+_, _-_}
 use mathlib.Core.Path.{sym}
 use native.Mathlib.Omega.{arith}
 use borrow.Author.Tests.{lt-leb}
-use Rattle.records.proofs.Chain.{leb-same}
+use Rattle.record.proofs.Chain.{leb-same}
 use Rattle.records.proofs.bring.has_room.Statement.{statement}
 use Rattle.records.proofs.bring.has_room.Tie as tie
 

@@ -1,7 +1,7 @@
 -- `records::bring::late_fault` meets its contract.
 use mathlib.Core.Path.{ap, _∙_}
 use mathlib.Core.Bool.{Bool}
-use Rattle.records.specs.Fault.{unless}
+use Rattle.record.specs.Fault.{unless}
 use borrow.Author.Needs.{needs}
 use Rattle.records.proofs.bring.late_fault.Statement.{statement}
 use Rattle.records.proofs.bring.late_fault.Tie as tie
