@@ -1,3 +1,4 @@
+-- `embed::promises::table_is_rows` is proved.
 use Rattle.embed.proofs.Embedded.{table-is-rows}
 use Rattle.embed.proofs.promises.table_is_rows.Statement.{statement}
 use Rattle.embed.proofs.promises.table_is_rows.Tie as tie

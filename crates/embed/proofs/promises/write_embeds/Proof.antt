@@ -1,3 +1,4 @@
+-- `embed::promises::write_embeds` is proved.
 use Rattle.embed.proofs.Named.{write-embeds}
 use Rattle.embed.proofs.promises.write_embeds.Statement.{statement}
 use Rattle.embed.proofs.promises.write_embeds.Tie as tie

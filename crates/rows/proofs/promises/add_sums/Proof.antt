@@ -1,3 +1,4 @@
+-- `rows::promises::add_sums` is proved.
 use Rattle.rows.proofs.Rowwise.{add-sums}
 use Rattle.rows.proofs.promises.add_sums.Statement.{statement}
 use Rattle.rows.proofs.promises.add_sums.Tie as tie

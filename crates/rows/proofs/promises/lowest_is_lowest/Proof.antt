@@ -1,3 +1,4 @@
+-- `rows::promises::lowest_is_lowest` is proved.
 use Rattle.rows.proofs.Rowwise.{lowest-is-lowest}
 use Rattle.rows.proofs.promises.lowest_is_lowest.Statement.{statement}
 use Rattle.rows.proofs.promises.lowest_is_lowest.Tie as tie

@@ -1,3 +1,4 @@
+-- `rows::promises::overlap_shared` is proved.
 use Rattle.rows.proofs.Rowwise.{overlap-shared}
 use Rattle.rows.proofs.promises.overlap_shared.Statement.{statement}
 use Rattle.rows.proofs.promises.overlap_shared.Tie as tie

@@ -1,3 +1,4 @@
+-- `rows::promises::row_has` is proved.
 use Rattle.rows.proofs.Rowwise.{row-has}
 use Rattle.rows.proofs.promises.row_has.Statement.{statement}
 use Rattle.rows.proofs.promises.row_has.Tie as tie

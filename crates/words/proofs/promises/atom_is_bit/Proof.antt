@@ -1,3 +1,4 @@
+-- `words::promises::atom_is_bit` is proved.
 use Rattle.words.proofs.Meaning.{atom-is-bit}
 use Rattle.words.proofs.promises.atom_is_bit.Statement.{statement}
 use Rattle.words.proofs.promises.atom_is_bit.Tie as tie

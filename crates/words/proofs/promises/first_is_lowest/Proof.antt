@@ -1,3 +1,4 @@
+-- `words::promises::first_is_lowest` is proved.
 use Rattle.words.proofs.Meaning.{first-is-lowest}
 use Rattle.words.proofs.promises.first_is_lowest.Statement.{statement}
 use Rattle.words.proofs.promises.first_is_lowest.Tie as tie

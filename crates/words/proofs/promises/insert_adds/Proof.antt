@@ -1,3 +1,4 @@
+-- `words::promises::insert_adds` is proved.
 use Rattle.words.proofs.Meaning.{insert-adds}
 use Rattle.words.proofs.promises.insert_adds.Statement.{statement}
 use Rattle.words.proofs.promises.insert_adds.Tie as tie

@@ -1,3 +1,4 @@
+-- `words::promises::intersection_shares` is proved.
 use Rattle.words.proofs.Meaning.{intersection-shares}
 use Rattle.words.proofs.promises.intersection_shares.Statement.{statement}
 use Rattle.words.proofs.promises.intersection_shares.Tie as tie

@@ -1,3 +1,4 @@
+-- `words::promises::merge_joins` is proved.
 use Rattle.words.proofs.Meaning.{merge-joins}
 use Rattle.words.proofs.promises.merge_joins.Statement.{statement}
 use Rattle.words.proofs.promises.merge_joins.Tie as tie

@@ -1,3 +1,4 @@
+-- `words::promises::ones_count` is proved.
 use Rattle.words.proofs.Meaning.{ones-count}
 use Rattle.words.proofs.promises.ones_count.Statement.{statement}
 use Rattle.words.proofs.promises.ones_count.Tie as tie

@@ -1,3 +1,4 @@
+-- `words::promises::same_atoms` is proved.
 use Rattle.words.proofs.Meaning.{same-atoms}
 use Rattle.words.proofs.promises.same_atoms.Statement.{statement}
 use Rattle.words.proofs.promises.same_atoms.Tie as tie

@@ -1,3 +1,4 @@
+-- `words::promises::step_visits` is proved.
 use Rattle.words.proofs.Meaning.{step-visits}
 use Rattle.words.proofs.promises.step_visits.Statement.{statement}
 use Rattle.words.proofs.promises.step_visits.Tie as tie

@@ -1,3 +1,4 @@
+-- `words::promises::subset_holds` is proved.
 use Rattle.words.proofs.Meaning.{subset-holds}
 use Rattle.words.proofs.promises.subset_holds.Statement.{statement}
 use Rattle.words.proofs.promises.subset_holds.Tie as tie
