@@ -6,12 +6,9 @@
 //!     oracle raw FILE|-          as states, but the Rust bare where document 01 parts from it
 //!     oracle batch FILE|-        cases in, one a line, and blocks of case and answer out
 
-mod file;
-mod records;
-mod states;
-mod text;
-
 use std::io::{Read, Write};
+
+use oracle::{file, states, text};
 
 fn main() {
     std::panic::set_hook(Box::new(|_| {}));
