@@ -64,12 +64,18 @@ fn meter() -> Meter<'static> {
 
 /// Equations (coefficients, constant) and whether they are exact.
 pub fn propose(k: usize, forbidden: &[u64]) -> (Vec<(u8, bool)>, bool) {
+    let (equations, count, exact) = proposed(k, forbidden);
+    (equations[..count].to_vec(), exact)
+}
+
+/// The same without a vector: eight places, how many of them count, and whether they are exact.
+pub fn proposed(k: usize, forbidden: &[u64]) -> ([(u8, bool); 8], usize, bool) {
     let hull = hull::propose(k, forbidden, &mut |_| Ok::<_, Stop>(())).expect("never declined");
-    let pairs = hull
-        .equations()
-        .iter()
-        .map(|e| (e.coefficients, e.constant));
-    (pairs.collect(), hull.exact)
+    let mut equations = [(0, false); 8];
+    for (place, equation) in equations.iter_mut().zip(hull.equations()) {
+        *place = (equation.coefficients, equation.constant);
+    }
+    (equations, hull.equations().len(), hull.exact)
 }
 
 impl ParitySystem {
