@@ -1,7 +1,7 @@
 // Elimination over the open atoms: "Basis rows in order, decided atoms taken out, each held one flipping the constant. Each row kept so far
 // .. is added where the new row has its lowest atom."
 // A row kept stands at the place of its lowest atom, so that no lowest atom is searched again; the mask of pivots names the places taken.
-// Up to 64 atoms a smaller memory serves, which is sooner cleared.
+// Up to 8 atoms, and up to 64, a smaller memory serves, which is sooner cleared.
 // Rows kept are added by rising lowest atom, which leaves the same row as document 01's order (proofs/Canonical.antt).
 use parity::System;
 use region::Region;
@@ -256,6 +256,22 @@ pub fn eliminate(
     words::xor_assign(&mut free, &region.held);
     words::xor_assign(&mut free, &region.cut);
     let mut pivots = [0u64; 8];
+    if system.atoms <= 8 {
+        let mut least = [0u64; 64];
+        let mut least_constants = [false; 8];
+        return eliminate_rows(
+            system.atoms,
+            system.rank,
+            rows,
+            constants,
+            basis,
+            &held,
+            &free,
+            &mut pivots,
+            &mut least,
+            &mut least_constants,
+        );
+    }
     if system.atoms <= 64 {
         let mut few = [0u64; 512];
         let mut few_constants = [false; 64];

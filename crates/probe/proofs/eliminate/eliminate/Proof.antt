@@ -62,7 +62,7 @@ slice-aggregate-xor-assign-2 c = search needs
 xor-assign-requires-2 : tie.Need-xor-assign-requires-2
 xor-assign-requires-2 c κs = search needs
 
--- ---- up to 64 atoms
+-- ---- up to 8 atoms
 
 slice-aggregate-eliminate-rows : tie.Need-slice-aggregate-eliminate-rows
 slice-aggregate-eliminate-rows c = search needs
@@ -73,15 +73,15 @@ slice-aggregate-eliminate-rows-2 c = search needs
 eliminate-rows-requires : tie.Need-eliminate-rows-requires
 unfolding packed
 eliminate-rows-requires c κs =
-    let few = c .before .before .before .before .before in
-    let second = few .before .before .before in
-    let rows = length-replicate {A = ℕ} 512 0 in
-    let constants = length-replicate {A = Bool} 64 false in (
+    let least = c .before .before .before .before .before in
+    let second = least .before .before .before in
+    let rows = length-replicate {A = ℕ} 64 0 in
+    let constants = length-replicate {A = Bool} 8 false in (
       begun second .pre .0,
       free-words second,
       refl,
       record { pivots = refl; rows = omega (arith, rows, constants); few = omega (arith, constants) },
-      omega (arith, constants, few .if1 .taken),
+      omega (arith, constants, least .if1 .taken),
     )
 
 returns : tie.Need-returns
@@ -90,7 +90,7 @@ returns c =
     let second = called .before .before .before .before .before .before .before .before .before in
     called .eliminate-rows .ensures (decisions (begun second .args .t5)) (masked second)
 
--- ---- up to 512
+-- ---- up to 64 atoms
 
 slice-aggregate-eliminate-rows-3 : tie.Need-slice-aggregate-eliminate-rows-3
 slice-aggregate-eliminate-rows-3 c = search needs
@@ -101,7 +101,35 @@ slice-aggregate-eliminate-rows-4 c = search needs
 eliminate-rows-requires-2 : tie.Need-eliminate-rows-requires-2
 unfolding packed
 eliminate-rows-requires-2 c κs =
-    let second = c .before .before .before .before .before .before .before .before in
+    let few = c .before .before .before .before .before in
+    let second = few .before .before .before .before .before in
+    let rows = length-replicate {A = ℕ} 512 0 in
+    let constants = length-replicate {A = Bool} 64 false in (
+      begun second .pre .0,
+      free-words second,
+      refl,
+      record { pivots = refl; rows = omega (arith, rows, constants); few = omega (arith, constants) },
+      omega (arith, constants, few .if2 .taken),
+    )
+
+returns-2 : tie.Need-returns-2
+returns-2 c =
+    let called = c .before .before in
+    let second = called .before .before .before .before .before .before .before .before .before .before .before in
+    called .eliminate-rows2 .ensures (decisions (begun second .args .t5)) (masked second)
+
+-- ---- up to 512
+
+slice-aggregate-eliminate-rows-5 : tie.Need-slice-aggregate-eliminate-rows-5
+slice-aggregate-eliminate-rows-5 c = search needs
+
+slice-aggregate-eliminate-rows-6 : tie.Need-slice-aggregate-eliminate-rows-6
+slice-aggregate-eliminate-rows-6 c = search needs
+
+eliminate-rows-requires-3 : tie.Need-eliminate-rows-requires-3
+unfolding packed
+eliminate-rows-requires-3 c κs =
+    let second = c .before .before .before .before .before .before .before .before .before .before in
     let start = begun second in
     let rows = length-replicate {A = ℕ} 4096 0 in
     let constants = length-replicate {A = Bool} 512 false in (
@@ -112,11 +140,11 @@ eliminate-rows-requires-2 c κs =
       omega (arith, constants, start .pre .2, fitting (start .args .t5) (start .pre .1) .few),
     )
 
-returns-2 : tie.Need-returns-2
-returns-2 c =
+returns-3 : tie.Need-returns-3
+returns-3 c =
     let called = c .before .before in
-    let second = called .before .before .before .before .before .before .before .before .before in
-    called .eliminate-rows2 .ensures (decisions (begun second .args .t5)) (masked second)
+    let second = called .before .before .before .before .before .before .before .before .before .before .before in
+    called .eliminate-rows3 .ensures (decisions (begun second .args .t5)) (masked second)
 
 pub eliminate-spec : {M : Type 1} → statement M
 eliminate-spec =
@@ -133,4 +161,8 @@ eliminate-spec =
     slice-aggregate-eliminate-rows-3
     slice-aggregate-eliminate-rows-4
     eliminate-rows-requires-2
-    returns-2)
+    returns-2
+    slice-aggregate-eliminate-rows-5
+    slice-aggregate-eliminate-rows-6
+    eliminate-rows-requires-3
+    returns-3)
