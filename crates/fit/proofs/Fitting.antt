@@ -3,6 +3,7 @@ use Prim.Native.Nat.{ℕ, zero, suc, _+_, _*_, _^_, _≤_, _<_}
 use mathlib.Core.Path.{_≡_, refl, sym, ap, ap₂, _∙_}
 use mathlib.Core.List.{List, [], _∷_}
 use mathlib.Core.Bool.{Bool, true, false, cond, _||_}
+use native.Mathlib.Numerals.{add-one}
 use native.Mathlib.Omega.{arith}
 use borrow.Author.Tests.{leb-false, ltb-false, lt-leb, le-ltb}
 use lib.ListN.{length, getD}
@@ -11,7 +12,7 @@ use Rattle.words.specs.Set.{setOf}
 use Rattle.rows.specs.Flat.{widthOf, row}
 use Rattle.fit.specs.Refusal.{refusal, orRefused}
 use Rattle.fit.specs.Rows.{overfull, short, strays, rowsUnfit}
-use Rattle.fit.proofs.Among.{or-none, or-right, any-next, any-found, any-each, any-none}
+use Rattle.fit.proofs.Among.{or-none, or-right, any-each, any-none}
 
 pub record Fit (n m : ℕ) (ws cs : List ℕ) : Type 0 where
   pub atoms : n ≤ 512
@@ -35,11 +36,8 @@ module _ (n w : ℕ) (ws cs : List ℕ) where
   unfolding strays
   strays-more m = refl
 
-  pub strays-next : (r : ℕ) → strays n w ws cs r ≡ false → rowStrays r ≡ false → strays n w ws cs (r + 1) ≡ false
-  strays-next = any-next (strays n w ws cs) rowStrays strays-start strays-more
-
-  pub strays-found : (m r : ℕ) → r < m → rowStrays r ≡ true → strays n w ws cs m ≡ true
-  strays-found = any-found (strays n w ws cs) rowStrays strays-start strays-more
+  pub strays-step : (r : ℕ) → strays n w ws cs (r + 1) ≡ (strays n w ws cs r || rowStrays r)
+  strays-step r = ap (strays n w ws cs) (add-one r) ∙ strays-more r
 
   pub strays-none : (m : ℕ) → ((r : ℕ) → r < m → (setOf (row w ws r) < 2 ^ n) × (getD cs r 0 < 2)) → strays n w ws cs m ≡ false
   strays-none m clean =

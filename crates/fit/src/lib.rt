@@ -24,22 +24,19 @@ fn row_strays(rows: &[u64], n: usize, width: usize, number: Source) -> bool
     rows[last] >> used != 0
 }
 
-// Whether one of the first m rows has an atom from n on, or a constant above 1.
+// Whether one of the first m rows has an atom from n on, or a constant above 1. The loop is left only at its end: it is compiled to read
+// many at once.
 fn any_strays(rows: &[u64], constants: &[u8], n: usize, width: usize, m: usize) -> bool
     requires { ⌜ (width ≡ widthOf n) × (m * width ≤ length (now rows)) × (m ≤ length (now constants)) ⌝ }
     ensures { λ r. ⌜ r ≡ strays n width (now (rows .entry)) (now (constants .entry)) m ⌝ }
 {
+    let mut stray = false;
     let mut r = 0;
     while r < m {
-        if row_strays(rows, n, width, Source(r)) {
-            return true;
-        }
-        if constants[r] > 1 {
-            return true;
-        }
+        stray = stray | (row_strays(rows, n, width, Source(r)) | (constants[r] > 1));
         r += 1;
     }
-    false
+    stray
 }
 
 // The smaller of two: a basis has min(m, n) entries at most.

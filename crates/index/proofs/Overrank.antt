@@ -4,6 +4,7 @@ use mathlib.Core.Path.{_≡_, refl, ap, _∙_}
 use mathlib.Core.List.{List}
 use mathlib.Core.Bool.{Bool, true, false, not, _||_}
 use native.Mathlib.Nat.{div-one, le-trans}
+use native.Mathlib.Numerals.{add-one}
 use native.Mathlib.Omega.{arith}
 use borrow.Author.Tests.{ne-eqb, le-leb, lt-leb, leb-true}
 use lib.ListN.{length, getD, drop}
@@ -11,7 +12,7 @@ use lib.Dec.{leb, eqb}
 use lib.Pow.{pow-mono}
 use Rattle.words.specs.Set.{setOf}
 use Rattle.rows.specs.Flat.{row}
-use Rattle.fit.proofs.Among.{any-next, any-found, any-none}
+use Rattle.fit.proofs.Among.{any-none}
 use Rattle.fit.proofs.Stray.{above-from, row-from, row-past, last-above}
 use Rattle.index.specs.Column.{overRank}
 
@@ -49,11 +50,8 @@ module _ (rank w : ℕ) (index : List ℕ) where
   unfolding overRank
   over-more n = refl
 
-  pub over-next : (a : ℕ) → overRank rank w index a ≡ false → overAt a ≡ false → overRank rank w index (a + 1) ≡ false
-  over-next = any-next (overRank rank w index) overAt over-start over-more
-
-  pub over-found : (n a : ℕ) → a < n → overAt a ≡ true → overRank rank w index n ≡ true
-  over-found = any-found (overRank rank w index) overAt over-start over-more
+  pub over-step : (a : ℕ) → overRank rank w index (a + 1) ≡ (overRank rank w index a || overAt a)
+  over-step a = ap (overRank rank w index) (add-one a) ∙ over-more a
 
   pub over-none : (n : ℕ) → ((a : ℕ) → a < n → setOf (row w index a) < 2 ^ rank) → overRank rank w index n ≡ false
   over-none n each = any-none (overRank rank w index) overAt over-start over-more n (λ a h. lt-leb (2 ^ rank) _ (each a h))

@@ -50,19 +50,18 @@ fn overranks(index: &[u64], rank: usize, width: usize, atom: Atom) -> bool
     index[last - 1] >> used != 0
 }
 
-// Whether one of the first n columns has a bit from the rank on.
+// Whether one of the first n columns has a bit from the rank on; the loop is left only at its end.
 fn any_overranks(index: &[u64], rank: usize, width: usize, n: usize) -> bool
     requires { ⌜ (width ≡ columnWidth rank) × (n * width ≤ length (now index)) ⌝ }
     ensures { λ r. ⌜ r ≡ overRank rank width (now (index .entry)) n ⌝ }
 {
+    let mut over = false;
     let mut a = 0;
     while a < n {
-        if overranks(index, rank, width, Atom(a)) {
-            return true;
-        }
+        over = over | overranks(index, rank, width, Atom(a));
         a += 1;
     }
-    false
+    over
 }
 
 // The number under which an atom's column is refused, or 0.
