@@ -224,6 +224,7 @@ fn main() {
 
     files("a file of 64 KiB, a third each", [1, 1, 1]);
     files("a file of 64 KiB, 70 of 100 inspections", [15, 70, 15]);
+    files("a file of 64 KiB, 98 of 100 inspections, no probe", [2, 98, 0]);
 
     head("### Growth");
     for size in [64, 128, 256, 512] {
