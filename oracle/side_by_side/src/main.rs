@@ -34,8 +34,7 @@ fn main() {
             tally.case(size, outcome.map_err(named));
         }
     }
-    let wanted: Vec<usize> = (1..=18).collect();
-    let good = tally.report(&wanted);
+    let good = tally.report(count >= 20000);
     println!("{count} systems of seed {seed}: {}", if good { "agreed" } else { "NOT agreed" });
     std::process::exit(if good { 0 } else { 1 });
 }

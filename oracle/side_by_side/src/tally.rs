@@ -37,8 +37,8 @@ impl Tally {
         }
     }
 
-    /// Writes all of it; whether none was apart, and every bound was asked on both sides.
-    pub fn report(mut self, wanted: &[usize]) -> bool {
+    /// Writes all of it; whether none was apart and, of a long run, every number was reached and every bound asked on both sides.
+    pub fn report(mut self, long: bool) -> bool {
         let list =
             |counts: &BTreeMap<&str, u64>| counts.iter().map(|(name, count)| format!("{name} {count}")).collect::<Vec<_>>().join(", ");
         println!("{} calls: {}", self.calls.values().sum::<u64>(), list(&self.calls));
@@ -51,12 +51,13 @@ impl Tally {
         for (size, text) in self.apart.iter().take(3) {
             println!("apart, size {size}: {}", &text[..text.len().min(6000)]);
         }
-        let missed: Vec<_> = wanted.iter().filter(|number| !self.refused.contains_key(number)).collect();
+        let missed: Vec<usize> = (1..=18).filter(|number| !self.refused.contains_key(number)).collect();
         let one_sided: Vec<_> = self.edges.iter().filter(|(_, sides)| sides.contains(&0)).map(|(name, _)| name).collect();
-        if !missed.is_empty() || !one_sided.is_empty() {
+        let whole = !long || missed.is_empty() && one_sided.is_empty();
+        if !whole {
             println!("never refused under {missed:?}, asked on one side only: {one_sided:?}");
         }
         println!("{} cases, {} apart", self.counted, self.apart.len());
-        self.apart.is_empty() && missed.is_empty() && one_sided.is_empty()
+        self.apart.is_empty() && whole
     }
 }
