@@ -6,8 +6,9 @@ fn compile(source: &str) -> Option<PathBuf> {
     println!("cargo::rerun-if-changed={source}");
     let out = PathBuf::from(std::env::var_os("OUT_DIR").expect("cargo sets it"));
     let object = out.join(source).with_extension("o");
-    let compiler = Command::new("cc").args(["-std=c11", "-O2", "-Wall", "-Wextra", "-c", source, "-o"]).arg(&object).output();
-    if !compiler.ok()?.status.success() {
+    let done = Command::new("cc").args(["-std=c11", "-O2", "-Wall", "-Wextra", "-c", source, "-o"]).arg(&object).output().ok()?;
+    if !done.status.success() {
+        eprintln!("{}", String::from_utf8_lossy(&done.stderr));
         return None;
     }
     Some(object)

@@ -40,12 +40,15 @@ static void add_table(size_t a, size_t b, uint64_t patterns) {
     const uint64_t forbidden[2] = {patterns, 0};
     worzubil_proposal proposal = worzubil_propose(2, forbidden, 2);
     printf("table %zu %zu: ", a, b);
-    if (proposal.number == 0 && proposal.hull.exact &&
-        worzubil_write(proposal.hull, names, 2, WIDTH, rows, ROWS * WIDTH, constants, ROWS, count)) {
+    if (proposal.number != 0) {
+        printf("refused %zu\n", proposal.number);
+    } else if (!proposal.hull.exact) {
+        printf("not exact, left out\n");
+    } else if (!worzubil_write(proposal.hull, names, 2, WIDTH, rows, ROWS * WIDTH, constants, ROWS, count)) {
+        printf("no room, left out\n");
+    } else {
         count += proposal.hull.count;
         printf("exact, equations: %zu\n", proposal.hull.count);
-    } else {
-        printf("not exact, left out\n");
     }
 }
 

@@ -7,7 +7,8 @@
  * A buffer is a pointer and then its length in elements. The pointer is not NULL and is aligned for its element, also where
  * the length is 0; a buffer that a call changes overlaps no other of that call. Nothing outside a buffer is read or written,
  * no call keeps a pointer, and every call ends. Any number is taken for any parameter: what is unfit changes nothing, and the
- * answer says so; where more than one number applies, it is the first in the call's list. */
+ * answer says so; where more than one number applies, it is the first in the call's list; docs/FORMAT.md has the order
+ * for files. */
 #ifndef WORZUBIL_H
 #define WORZUBIL_H
 
@@ -291,7 +292,7 @@ typedef struct {
     size_t number;
     size_t held;   /* the atoms settled as true */
     size_t cut;    /* and as false */
-    size_t forced; /* the entries of the forced list; with WORZUBIL_REFUTED not all of them may be settled */
+    size_t forced; /* the entries of the forced list; after a refutation none of them, or only the first few, are settled */
     worzubil_region region;
     worzubil_snapshot known;
 } worzubil_inspection;

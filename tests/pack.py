@@ -4,9 +4,10 @@
     tests/pack.py            writes crates/replay/stdin and crates/replay/stdout
     tests/pack.py check      ends with 1 where they are not what it would write
 
-Numbers are little-endian: 2 bytes, and 8 of a word and of a length in bytes. A list is its length in 2 bytes and then its entries. The input
-has the tables, the library's systems but those of short buffers, and the files, but for cases of more than 65,000 bytes; each of the three is
-the number of its cases, and a case its length in bytes and then what crates/replay/src/tables.rt, systems.rt and files.rt say.
+Numbers are little-endian, 2 bytes each; words, and the length of a case or of a file, have 8. A list is its length in 2 bytes and then its
+entries. The input has the tables, the library's systems but those of short buffers, and the files, but for cases of more than 65,000 bytes.
+Each of the three begins with the number of its cases; a case is its length in bytes, then what crates/replay/src/tables.rt, systems.rt and
+files.rt say.
 """
 
 import os
@@ -18,7 +19,7 @@ import reading
 HERE = os.path.dirname(os.path.abspath(__file__))
 RECORDED = os.path.join(HERE, "recorded", "answers.txt")
 REPLAY = os.path.join(HERE, "..", "crates", "replay")
-MOST_BYTES = 65000
+MOST_BYTES, ROOM = 65000, 500000  # of a case, and of all: crates/replay/src/main.rt reads no more
 CALLS = {"inspect": 2, "probe": 3}
 
 
@@ -112,6 +113,8 @@ def main(mode="write"):
     groups = dict(packed())
     said = "".join(f"{len(cases)} of {len(cases)} recorded answers of {call} agree\n" for call, cases in groups.items())
     given = b"".join(numbers(len(cases)) + b"".join(map(counted, cases)) for cases in groups.values())
+    if len(given) > ROOM or mode not in ("write", "check"):
+        sys.exit(__doc__ if len(given) <= ROOM else f"{len(given)} bytes are more than replay reads")
     for name, content in {"stdin": given, "stdout": said.encode()}.items():
         path = os.path.join(REPLAY, name)
         if mode == "write":

@@ -22,7 +22,6 @@ impl Random {
 }
 
 /// Rows that an assignment meets.
-#[derive(Clone)]
 pub struct Input {
     pub atoms: usize,
     pub rows: Vec<u64>,

@@ -16,7 +16,7 @@ use zetesis_algebra::region::Region;
 use zetesis_ferraris::regions::NarrowingScratch;
 use zetesis_ferraris::regions::arithmetic::{self, ParitySystem};
 
-/// The best time of one call of each side, in nanoseconds: batches in turn, for a second at least.
+/// The best time of one call of each side, in nanoseconds: batches in turn, for a second and a half at least.
 fn best(calls: usize, sides: &mut [&mut dyn Side]) -> Vec<f64> {
     let mut times = vec![Duration::MAX; sides.len()];
     let begin = Instant::now();
@@ -42,7 +42,7 @@ fn spend<T>(result: T) {
 fn shown(time: f64) -> String {
     match time {
         ..1e4 => format!("{time:.0} ns"),
-        ..1e7 => format!("{:.1} us", time / 1e3),
+        ..1e7 => format!("{:.1} µs", time / 1e3),
         _ => format!("{:.1} ms", time / 1e6),
     }
 }
@@ -95,6 +95,8 @@ fn prepares(name: &str, input: &Input, calls: usize) {
     assert_eq!(told, plain.told);
     let words: Vec<u64> = rust.made[0].rows().iter().flat_map(|(words, _)| words[..input.width()].to_vec()).collect();
     assert!(ours.left().rows == words && plain.left().rows == words, "rows differ");
+    assert!(ours.left().basis[..rank] == *rust.made[0].basis(), "bases differ");
+    assert!(rust.made[0].rows().iter().zip(&ours.left().constants).all(|((_, odd), byte)| u8::from(*odd) == *byte), "constants differ");
     assert!(ours.left().index[..rust.made[0].index().len()] == *rust.made[0].index(), "indexes differ");
     assert!(ours.left().index == plain.left().index && ours.left().basis == plain.left().basis, "plain C differs");
     let mut sides: Vec<&mut dyn Side> = vec![&mut rust, &mut ours, &mut plain];
@@ -132,7 +134,9 @@ fn inspects(name: &str, input: &Input, region: &raw::Region, known: Option<&raw:
     assert_eq!(rust.told, (told.kind, told.held as u64, told.cut as u64));
     let (after, (initialized, words)) = rust.after();
     same_region(&told.region, after);
-    assert!(initialized == told.known.initialized && told.known.held[..words.len() / 2] == words[..words.len() / 2], "knowledge differs");
+    let (held, cut) = words.split_at(words.len() / 2);
+    assert!(initialized == told.known.initialized && told.known.held[..held.len()] == *held, "knowledge differs");
+    assert!(told.known.cut[..cut.len()] == *cut, "knowledge differs");
     let touched = rust_system.touched(&rust_region(region), known.map(rust_region).as_ref()).len();
     line(&format!("{name} ({touched} of {} rows touched)", system.rank), &best(calls, &mut [&mut rust, &mut ours]));
 }

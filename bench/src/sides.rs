@@ -54,7 +54,6 @@ impl Flat {
 }
 
 #[repr(C)]
-#[derive(Default)]
 pub struct PlainPrepared {
     pub rank: usize,
     pub additions: usize,

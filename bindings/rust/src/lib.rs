@@ -6,7 +6,8 @@
 //! many ways the rest can come out. [`answer`] does it all for a file of records.
 //!
 //! Any number is taken for any parameter, and every call ends. What is unfit changes nothing, and comes back as a [`Refusal`], whose number
-//! is the header's, or as [`Unfit`]. A call panics only where the archive that is linked is not that of the header.
+//! is the header's, or as [`Unfit`]. A call panics only where the archive that is linked is not that of the header, or where
+//! memory runs out.
 //!
 //! ```
 //! use worzubil::{Decision, Refusal, Region, Rows, Snapshot};

@@ -81,7 +81,7 @@ pub struct Inspection {
     pub held: usize,
     /// And as false.
     pub cut: usize,
-    /// The entries of the forced list that were written; with `Refuted` some or all of them may not be settled.
+    /// The entries of the forced list that were written; after a refutation none of them, or only the first few, are settled.
     pub forced: usize,
 }
 
@@ -111,7 +111,7 @@ pub struct Probe {
 impl Probe {
     /// The e for which there are exactly 2^e ways to settle the open atoms, or nothing where there is no way.
     pub fn ways(&self) -> Option<usize> {
-        self.yes.then(|| self.undecided - self.kept)
+        self.yes.then(|| self.undecided.saturating_sub(self.kept))
     }
 }
 
@@ -143,7 +143,7 @@ impl<'a> Lent<'a> {
         })
     }
 
-    /// The basis rows that have an atom settled since the knowledge was published, by their places; all of them where none was.
+    /// The basis rows that have an atom settled since the knowledge was published, by their places; all of them where no knowledge was published.
     /// [`sets::atoms`](crate::sets::atoms) of its words lists them. Refused: 9 to 16, as the header has them.
     pub fn touched(&self, region: &Region, known: &Snapshot) -> Result<Ordinals, Refusal> {
         // SAFETY: a slice is not null, is aligned and has its length.

@@ -1,3 +1,3 @@
--- What the contracts of `file_ways` cites.
+-- What the contracts of `file_ways` cite.
 pub mod Probes
 pub mod Calls

@@ -24,8 +24,8 @@ fn row_strays(rows: &[u64], n: usize, width: usize, number: Source) -> bool
     rows[last] >> used != 0
 }
 
-// Whether one of the first m rows has an atom from n on, or a constant above 1. The loop is left only at its end: it is compiled to read
-// many at once.
+// Whether one of the first m rows has an atom from n on, or a constant above 1. The loop has no early exit, so that the
+// compiled code can read many rows at once.
 fn any_strays(rows: &[u64], constants: &[u8], n: usize, width: usize, m: usize) -> bool
     requires { ⌜ (width ≡ widthOf n) × (m * width ≤ length (now rows)) × (m ≤ length (now constants)) ⌝ }
     ensures { λ r. ⌜ r ≡ strays n width (now (rows .entry)) (now (constants .entry)) m ⌝ }

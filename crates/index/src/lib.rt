@@ -50,7 +50,7 @@ fn overranks(index: &[u64], rank: usize, width: usize, atom: Atom) -> bool
     index[last - 1] >> used != 0
 }
 
-// Whether one of the first n columns has a bit from the rank on; the loop is left only at its end.
+// Whether one of the first n columns has a bit from the rank on. The loop has no early exit, as in `fit::any_strays`.
 fn any_overranks(index: &[u64], rank: usize, width: usize, n: usize) -> bool
     requires { ⌜ (width ≡ columnWidth rank) × (n * width ≤ length (now index)) ⌝ }
     ensures { λ r. ⌜ r ≡ overRank rank width (now (index .entry)) n ⌝ }

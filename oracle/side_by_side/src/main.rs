@@ -1,6 +1,6 @@
 //! The original Rust and the compiled library in one process, on the same inputs.
 //!
-//!     side_by_side SYSTEMS [SEED [FIRST]]    systems of seed 1 from number FIRST (0) on, as many tables, a third as many files
+//!     side_by_side SYSTEMS [SEED [FIRST]]    systems of SEED (1) from number FIRST (0) on, as many tables, a third as many files
 
 mod calls;
 mod case;

@@ -2,6 +2,8 @@
 
 use std::collections::BTreeMap;
 
+use crate::edges::{EDGES, OFFERS};
+
 #[derive(Default)]
 pub struct Tally {
     calls: BTreeMap<&'static str, u64>,
@@ -52,10 +54,12 @@ impl Tally {
             println!("apart, size {size}: {}", &text[..text.len().min(6000)]);
         }
         let missed: Vec<usize> = (1..=18).filter(|number| !self.refused.contains_key(number)).collect();
+        let bounds = EDGES.iter().map(|edge| format!("{edge:?}")).chain(OFFERS.iter().map(|edge| format!("prepare {edge:?}")));
+        bounds.for_each(|name| drop(self.edges.entry(name).or_default()));
         let one_sided: Vec<_> = self.edges.iter().filter(|(_, sides)| sides.contains(&0)).map(|(name, _)| name).collect();
         let whole = !long || missed.is_empty() && one_sided.is_empty();
         if !whole {
-            println!("never refused under {missed:?}, asked on one side only: {one_sided:?}");
+            println!("never refused under {missed:?}, not asked on both sides: {one_sided:?}");
         }
         println!("{} cases, {} apart", self.counted, self.apart.len());
         self.apart.is_empty() && whole
