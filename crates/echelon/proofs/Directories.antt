@@ -1,12 +1,12 @@
 -- The directory after one row more: an empty row changes nothing, and a pivot is entered at its lowest atom.
-use Prim.Native.Nat.{ℕ, zero, suc, _≤_, _<_}
+use Prim.Native.Nat.{ℕ, zero, suc, _*_, _≤_, _<_}
 use mathlib.Core.Path.{_≡_, refl, ap, _∙_}
 use mathlib.Core.List.{List}
 use mathlib.Core.Bool.{Bool, true, false, cond}
 use mathlib.Core.Option.{some}
 use native.Mathlib.Omega.{arith}
 use borrow.Author.Tests.{eqb-true, eqb-false}
-use lib.ListN.{length, getD, set, replicate, length-set, length-replicate}
+use lib.ListN.{length, getD, set, replicate, length-set}
 use lib.Seq.{getD-set-same, getD-set-other}
 use lib.Arith.{lt-of-le-ne}
 use lib.Dec.{eqb}
@@ -28,16 +28,17 @@ module _ (n w t : ℕ) (ws cs : List ℕ) (r : Row) where
   unfolding rowsTo
   before e = ap (λ (b : Bool). cond b (some (rowAt n w ws cs t)) (find r (rowsTo n w ws cs t))) e
 
-getD-zeros : (k a : ℕ) → _≡_ {A = ℕ} (getD (replicate k 0) a 0) 0
+pub getD-zeros : (k a : ℕ) → _≡_ {A = ℕ} (getD (replicate k 0) a 0) 0
 getD-zeros zero a = refl
 getD-zeros (suc k) zero = refl
 getD-zeros (suc k) (suc a) = getD-zeros k a
 
-pub directory-start : (n w : ℕ) (ws cs sources : List ℕ) → length sources ≡ 512 → Directory n w 0 ws cs (replicate 512 0) sources
+pub directory-start : (n w : ℕ) (ws cs heads sources : List ℕ) → ((a : ℕ) → getD heads a 0 ≡ 0) → w * 64 ≤ length heads → w * 64 ≤ length sources
+    → Directory n w 0 ws cs heads sources
 unfolding rowsTo
-directory-start n w ws cs sources l = record {
-  heads-length = length-replicate {A = ℕ} 512 0;
-  sources-length = l;
+directory-start n w ws cs heads sources zeros l l′ = record {
+  heads-wide = l;
+  sources-wide = l′;
   clean = λ r h. let z : ⊥ = omega arith in absurd z;
   known = λ a h. record {
     none-yet = λ e r low. refl;
@@ -48,8 +49,8 @@ directory-start n w ws cs sources l = record {
   };
 }
   where
-    none : (a : ℕ) → 0 < getD (replicate 512 0) a 0 → ⊥
-    none a p = omega (arith, getD-zeros 512 a)
+    none : (a : ℕ) → 0 < getD heads a 0 → ⊥
+    none a p = omega (arith, zeros a)
 
 module _ (n w t : ℕ) (ws cs heads sources : List ℕ) (dir : Directory n w t ws cs heads sources) (clean : Clean n w t ws cs) where
   pub clean-all : (r : ℕ) → r < suc t → Clean n w r ws cs
@@ -72,13 +73,13 @@ module _ (n w t : ℕ) (ws cs heads sources : List ℕ) (dir : Directory n w t w
 
   pub directory-empty : empty (rowAt n w ws cs t .atoms) ≡ true → Directory n w (suc t) ws cs heads sources
   directory-empty e = record {
-    heads-length = dir .heads-length;
-    sources-length = dir .sources-length;
+    heads-wide = dir .heads-wide;
+    sources-wide = dir .sources-wide;
     clean = clean-all;
     known = λ a h. known-on (getD heads a 0) (getD sources a 0) a (dir .known a h) (λ r low. none-low (r .atoms) (rowAt n w ws cs t .atoms) e);
   }
 
-  module _ (bound : n ≤ 512) (head lowest : ℕ) (some-head : 0 < head) (pivot : Pivot n w t ws cs head lowest) where
+  module _ (wide : n ≤ w * 64) (head lowest : ℕ) (some-head : 0 < head) (pivot : Pivot n w t ws cs head lowest) where
     heads′ : List ℕ
     heads′ = set heads lowest head
 
@@ -87,11 +88,11 @@ module _ (n w t : ℕ) (ws cs heads sources : List ℕ) (dir : Directory n w t w
 
     head-here : getD heads′ lowest 0 ≡ head
     unfolding heads′
-    head-here = getD-set-same heads lowest head 0 (omega (arith, dir .heads-length, pivot .atom))
+    head-here = getD-set-same heads lowest head 0 (omega (arith, dir .heads-wide, pivot .atom))
 
     source-here : getD sources′ lowest 0 ≡ t
     unfolding sources′
-    source-here = getD-set-same sources lowest t 0 (omega (arith, dir .sources-length, pivot .atom))
+    source-here = getD-set-same sources lowest t 0 (omega (arith, dir .sources-wide, pivot .atom))
 
     known-new : Known n w (suc t) ws cs (getD heads′ lowest 0) (getD sources′ lowest 0) lowest
     known-new =
@@ -120,8 +121,8 @@ module _ (n w t : ℕ) (ws cs heads sources : List ℕ) (dir : Directory n w t w
     pub directory-pivot : Directory n w (suc t) ws cs (set heads lowest head) (set sources lowest t)
     unfolding heads′ sources′
     directory-pivot = record {
-      heads-length = simp length-set (dir .heads-length);
-      sources-length = simp length-set (dir .sources-length);
+      heads-wide = simp length-set (dir .heads-wide);
+      sources-wide = simp length-set (dir .sources-wide);
       clean = clean-all;
       known = known-all;
     }

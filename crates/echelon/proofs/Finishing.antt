@@ -35,8 +35,8 @@ module _ (n w t : ℕ) (ws cs ws′ cs′ heads sources : List ℕ) (only : Only
 
   pub directory-kept : Directory n w t ws cs heads sources → Directory n w t ws′ cs′ heads sources
   directory-kept dir = record {
-    heads-length = dir .heads-length;
-    sources-length = dir .sources-length;
+    heads-wide = dir .heads-wide;
+    sources-wide = dir .sources-wide;
     clean = λ r h. clean-kept w t r h n ws cs ws′ cs′ only (dir .clean r h);
     known = λ a h.
         let known = dir .known a h in

@@ -6,7 +6,7 @@ use mathlib.Core.Bool.{Bool, true, false, cond, _&&_, and-eq-true-iff}
 use native.Mathlib.Nat.{suc-mul, add-zero, zero-add, suc-add}
 use native.Mathlib.Numerals.{add-one}
 use native.Mathlib.Omega.{arith}
-use lib.ListN.{length, getD, take, drop, set, replicate, length-append, length-set, take-append-drop}
+use lib.ListN.{length, getD, take, drop, set, length-append, length-set, take-append-drop}
 use lib.Seq.{drop-drop, drop-cons, append-snoc, set-at, getD-drop}
 use borrow.Author.Tests.{ne-eqb, eqb-true, eqb-false}
 use lib.Dec.{eqb}
@@ -24,7 +24,7 @@ use Rattle.echelon.proofs.Solutions.{rank-le}
 use Rattle.echelon.proofs.Written.{words-back, constants-back}
 use Rattle.echelon.proofs.Replaced.{rowAt-length, rows-kept}
 use Rattle.echelon.proofs.Finishing.{directory-kept}
-use Rattle.echelon.proofs.Directories.{clean-all, directory-start, directory-empty, directory-pivot}
+use Rattle.echelon.proofs.Directories.{clean-all, directory-empty, directory-pivot}
 
 abbrev pub after : ℕ → ℕ → List ℕ → List ℕ → ℕ → State
 after n w ws cs t = eliminated n (rowsTo n w ws cs t)
@@ -53,9 +53,9 @@ pub record Upto (n w t : ℕ) (ws cs ps ws′ cs′ ps′ heads sources : List �
   pub directory : Directory n w t ws′ cs′ heads sources
   pub few : additions ≤ t * 512
 
-pub upto-start : (n w : ℕ) (ws cs ps sources : List ℕ) → length sources ≡ 512 → Upto n w 0 ws cs ps ws cs ps (replicate 512 0) sources 0 0
+pub upto-start : (n w : ℕ) (ws cs ps heads sources : List ℕ) → Directory n w 0 ws cs heads sources → Upto n w 0 ws cs ps ws cs ps heads sources 0 0
 unfolding eliminated rowsTo
-upto-start n w ws cs ps sources l = record {
+upto-start n w ws cs ps heads sources dir = record {
   words = refl;
   constants = refl;
   entries = refl;
@@ -66,7 +66,7 @@ upto-start n w ws cs ps sources l = record {
   rank-is = refl;
   additions-is = refl;
   going = refl;
-  directory = directory-start n w ws cs sources l;
+  directory = dir;
   few = omega arith;
 }
 
@@ -217,10 +217,10 @@ module _ (n w t : ℕ) (ws cs ps ws′ cs′ ps′ heads sources : List ℕ) (ra
           let handed = rows-le n rs in
           omega (arith, rank-next, rows-length n w ws cs (suc t))
 
-      upto-pivot : rank < length ps
+      upto-pivot : rank < length ps → n ≤ w * 64
           → Upto n w (suc t) ws cs ps ws″ cs″ (set ps′ rank t) (set heads lowest head) (set sources lowest t) (rank + 1) (additions + k)
       unfolding st left
-      upto-pivot room =
+      upto-pivot room wide =
           let split : ps′ ≡ st .basis ++ getD ps rank 0 ∷ drop (suc rank) ps = so .basis ∙ ap (λ (l : List ℕ). st .basis ++ l) (drop-cons ps rank 0 room) in
           upto-next (set ps′ rank t) (set heads lowest head) (set sources lowest t) (rank + 1) (simp length-set (so .entries))
           (ap (λ (l : List ℕ). set l rank t) split ∙ set-at (st .basis) (getD ps rank 0) (drop (suc rank) ps) t rank (sym (so .rank-is))
@@ -228,13 +228,13 @@ module _ (n w t : ℕ) (ws cs ps ws′ cs′ ps′ heads sources : List ℕ) (ra
           ∙ ap₂ (λ (b : Bool) (i : ℕ). joined b t (st .basis) ++ drop i ps) (sym left-some) (sym (add-one rank)))
           (ap (λ (i : ℕ). i + 1) (so .rank-is) ∙ sym (length-append (st .basis) (t ∷ [])) ∙ ap (λ (b : Bool). length (joined b t (st .basis))) (sym left-some))
           (ap (λ (b : Bool). b && left .constant) left-some)
-          (directory-pivot n w t ws″ cs″ heads sources directory-here (f .clean) bound head lowest some-head (f .pivot some-head))
+          (directory-pivot n w t ws″ cs″ heads sources directory-here (f .clean) wide head lowest some-head (f .pivot some-head))
 
     -- either of the two, as `enter` leaves it
-    pub upto-turn : (eqb head 0 && eqb (getD cs″ t 0) 1) ≡ false → (m : ℕ) → t < m → min m n ≤ length ps
+    pub upto-turn : (eqb head 0 && eqb (getD cs″ t 0) 1) ≡ false → (m : ℕ) → t < m → min m n ≤ length ps → n ≤ w * 64
         → Upto n w (suc t) ws cs ps ws″ cs″ (cond (eqb head 0) ps′ (set ps′ rank t)) (cond (eqb head 0) heads (set heads lowest head))
         (cond (eqb head 0) sources (set sources lowest t)) (cond (eqb head 0) rank (rank + 1)) (additions + k)
-    upto-turn sound m h room = go (eqb head 0) refl
+    upto-turn sound m h room wide = go (eqb head 0) refl
       where
         go : (b : Bool) → eqb head 0 ≡ b
             → Upto n w (suc t) ws cs ps ws″ cs″ (cond b ps′ (set ps′ rank t)) (cond b heads (set heads lowest head)) (cond b sources (set sources lowest t)) (cond b rank (rank + 1)) (additions + k)
@@ -242,7 +242,7 @@ module _ (n w t : ℕ) (ws cs ps ws′ cs′ ps′ heads sources : List ℕ) (ra
             upto-empty (eqb-true head 0 e) (eqb-false (getD cs″ t 0) 1 (ap (λ (b : Bool). b && eqb (getD cs″ t 0) 1) (sym e) ∙ sound))
         go false e =
             let some-head : 0 < head = omega (arith, eqb-false head 0 e) in
-            upto-pivot some-head (omega (arith, pivot-room some-head m h))
+            upto-pivot some-head (omega (arith, pivot-room some-head m h)) wide
 
     -- the row is left empty with constant 1: the end
     pub upto-refuted : (m : ℕ) → t < m → (eqb head 0 && eqb (getD cs″ t 0) 1) ≡ true → ((i : ℕ) → getD ws″ i 0 < 2 ^ 64)

@@ -4,7 +4,7 @@ use rows::Source;
 ghost use mathlib.Core.Path.{_≡_};
 ghost use mathlib.Core.Bool.{cond, _&&_};
 ghost use Prim.Native.Nat.{ℕ, _+_, _*_, _≤_, _<_, min};
-ghost use lib.ListN.{length, set, replicate};
+ghost use lib.ListN.{length, getD, set};
 ghost use lib.Dec.{eqb};
 ghost use Rattle.rows.specs.Flat.{widthOf};
 ghost use Rattle.echelon.specs.Forward.{eliminated};
@@ -56,7 +56,7 @@ fn refutes(head: u64, constant: u8) -> bool
     if head == 0 { constant == 1 } else { false }
 }
 
-// Reduces the rows in order. The directory is lent empty.
+// Reduces the rows in order. The directory is lent empty, with room for every atom.
 fn eliminate_rows(
     n: usize,
     m: usize,
@@ -67,7 +67,7 @@ fn eliminate_rows(
     heads: &mut [u64],
     sources: &mut [usize],
 ) -> Eliminated
-    requires { ⌜ (n ≤ 512) × (m ≤ 512) × (width ≡ widthOf n) × (m * width ≤ length (now rows)) × (m ≤ length (now constants)) × (min m n ≤ length (now basis)) × ((r : ℕ) → r < m → Clean n width r (now rows) (now constants)) × (now heads ≡ replicate 512 0) × (length (now sources) ≡ 512) ⌝ }
+    requires { ⌜ (n ≤ 512) × (m ≤ 512) × (width ≡ widthOf n) × (m * width ≤ length (now rows)) × (m ≤ length (now constants)) × (min m n ≤ length (now basis)) × ((r : ℕ) → r < m → Clean n width r (now rows) (now constants)) × ((a : ℕ) → getD (now heads) a 0 ≡ 0) × (width * 64 ≤ length (now heads)) × (width * 64 ≤ length (now sources)) ⌝ }
     ensures { λ r. ⌜ outcome r (now (rows .exit)) (now (constants .exit)) (now (basis .exit)) ≡ written width (eliminated n (rowsTo n width (now (rows .entry)) (now (constants .entry)) m)) (now (rows .entry)) (now (constants .entry)) (now (basis .entry)) ⌝ }
 {
     let mut rank = 0;
@@ -129,12 +129,28 @@ pub fn eliminate(
             refuted: false,
         };
     }
+    let width = rows::width(n);
+    // Up to 64 atoms a smaller directory serves, which is sooner cleared.
+    if n <= 64 {
+        let mut few_heads = [0; 64];
+        let mut few_sources = [0; 64];
+        return eliminate_rows(
+            n,
+            m,
+            width,
+            rows,
+            constants,
+            basis,
+            &mut few_heads,
+            &mut few_sources,
+        );
+    }
     let mut heads = [0; 512];
     let mut sources = [0; 512];
     eliminate_rows(
         n,
         m,
-        rows::width(n),
+        width,
         rows,
         constants,
         basis,

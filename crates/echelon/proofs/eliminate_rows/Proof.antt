@@ -1,9 +1,10 @@
 -- `eliminate_rows` meets its contract: after t rows the memory is `Upto`.
 use Prim.Native.Nat.{ℕ, _-_, _*_, _^_, _≤_, _<_}
-use mathlib.Core.Path.{_≡_, sym, ap, _∙_}
+use mathlib.Core.Path.{_≡_, refl, sym, ap, _∙_}
 use native.Mathlib.Numerals.{add-one}
 use native.Mathlib.Omega.{arith}
-use lib.ListN.{length, getD, length-replicate}
+use lib.ListN.{length, getD}
+use Rattle.echelon.proofs.Directories.{directory-start}
 use Rattle.echelon.proofs.Upto.{Upto, upto-start, clean-here, pivot-room, upto-turn, upto-refuted, upto-end}
 use borrow.Author.Needs.{needs}
 use Rattle.echelon.proofs.eliminate_rows.Statement.{statement}
@@ -12,6 +13,7 @@ use Rattle.echelon.proofs.eliminate_rows.Tie as tie
 abbrev Inv-loop : tie.InvT-loop
 Inv-loop n m width rows₀ constants₀ basis₀ heads₀ sources₀ rank₀ additions₀ t₀ rows constants basis heads sources rank additions t =
     (t ≤ m) × Upto n width t rows₀ constants₀ basis₀ rows constants basis heads sources rank additions × ((i : ℕ) → getD rows i 0 < 2 ^ 64)
+    × (length heads ≡ length heads₀) × (length sources ≡ length sources₀)
 
 abbrev μ-loop : tie.MeasureT-loop
 μ-loop n m width rows₀ constants₀ basis₀ heads₀ sources₀ rank₀ additions₀ t₀ rows constants basis heads sources rank additions t = m - t
@@ -21,8 +23,11 @@ loop-holds c =
     let start = c .before .before .before .before .before in
     let a = start .args in (
       omega arith,
-      rw (start .pre .7) (upto-start (a .n) (a .width) (a .rows .now) (a .constants .now) (a .basis .now) (a .sources .now) (start .pre .8)),
+      upto-start (a .n) (a .width) (a .rows .now) (a .constants .now) (a .basis .now) (a .heads .now) (a .sources .now)
+          (directory-start (a .n) (a .width) (a .rows .now) (a .constants .now) (a .heads .now) (a .sources .now) (start .pre .7) (start .pre .8) (start .pre .9)),
       λ i. c .before .before .before .before .slice-known .given i .fits,
+      refl,
+      refl,
     )
 
 abbrev startOf : (c : tie.At-loop Inv-loop μ-loop) → tie.Start Inv-loop μ-loop
@@ -63,12 +68,6 @@ refutes-requires c κs = search needs
 
 -- ---- refuted
 
-heads-kept : (c : tie.At-loop Inv-loop μ-loop) → length (c .loop .heads) ≡ length (startOf c .args .heads .now)
-heads-kept c = c .loop .inv .1 .directory .heads-length ∙ sym (ap length (startOf c .pre .7) ∙ length-replicate {A = ℕ} 512 0)
-
-sources-kept : (c : tie.At-loop Inv-loop μ-loop) → length (c .loop .sources) ≡ length (startOf c .args .sources .now)
-sources-kept c = c .loop .inv .1 .directory .sources-length ∙ sym (startOf c .pre .8)
-
 same-length : tie.Need-same-length Inv-loop μ-loop
 same-length c =
     let call = c .before .before .before .before .before .before .before .before in
@@ -83,10 +82,10 @@ same-length-3 : tie.Need-same-length-3 Inv-loop μ-loop
 same-length-3 c = atOf (c .before .before .before .before .before .before .before .before) .loop .inv .1 .entries
 
 same-length-4 : tie.Need-same-length-4 Inv-loop μ-loop
-same-length-4 c = heads-kept (atOf (c .before .before .before .before .before .before .before .before))
+same-length-4 c = atOf (c .before .before .before .before .before .before .before .before) .loop .inv .3
 
 same-length-5 : tie.Need-same-length-5 Inv-loop μ-loop
-same-length-5 c = sources-kept (atOf (c .before .before .before .before .before .before .before .before))
+same-length-5 c = atOf (c .before .before .before .before .before .before .before .before) .loop .inv .4
 
 returns : tie.Need-returns Inv-loop μ-loop
 returns c =
@@ -107,8 +106,8 @@ enter-requires c κs some-head =
     let f = call .reduce-row .ensures in
     let atom = f .pivot some-head .atom in
     let room = pivot-room (a .n) (a .width) (l .t) (a .rows .now) (a .constants .now) (a .basis .now) (l .rows) (l .constants) (l .basis) (l .heads) (l .sources) (l .rank) (l .additions) (l .inv .1) (start .pre .0) _ _ _ _ _ f some-head (a .m) (more call) in (
-      omega (arith, l .inv .1 .directory .heads-length, start .pre .0),
-      omega (arith, l .inv .1 .directory .sources-length, start .pre .0),
+      omega (arith, l .inv .1 .directory .heads-wide, start .pre .2),
+      omega (arith, l .inv .1 .directory .sources-wide, start .pre .2),
       omega (arith, start .pre .5, l .inv .1 .entries),
     )
 
@@ -131,8 +130,10 @@ loop-again c =
     let e = enter .enter .ensures in (
       omega (arith, more call),
       rw (e .0, e .1 .0, e .1 .1 .0, e .1 .1 .1, add-one (l .t))
-          (upto-turn (a .n) (a .width) (l .t) (a .rows .now) (a .constants .now) (a .basis .now) (l .rows) (l .constants) (l .basis) (l .heads) (l .sources) (l .rank) (l .additions) (l .inv .1) (start .pre .0) _ _ _ _ _ (call .reduce-row .ensures) (sym (else .before .refutes .ensures) ∙ else .if1 .left) (a .m) (more call) (start .pre .5)),
+          (upto-turn (a .n) (a .width) (l .t) (a .rows .now) (a .constants .now) (a .basis .now) (l .rows) (l .constants) (l .basis) (l .heads) (l .sources) (l .rank) (l .additions) (l .inv .1) (start .pre .0) _ _ _ _ _ (call .reduce-row .ensures) (sym (else .before .refutes .ensures) ∙ else .if1 .left) (a .m) (more call) (start .pre .5) (omega (arith, start .pre .2))),
       λ i. else .before .before .before .before .before .before .slice-known6 .given i .fits,
+      enter .enter .kept .0 ∙ l .inv .3,
+      enter .enter .kept .1 .0 ∙ l .inv .4,
     )
 
 -- ---- every row is done
@@ -147,10 +148,10 @@ same-length-8 : tie.Need-same-length-8 Inv-loop μ-loop
 same-length-8 c = c .before .loop .inv .1 .entries
 
 same-length-9 : tie.Need-same-length-9 Inv-loop μ-loop
-same-length-9 c = heads-kept (c .before)
+same-length-9 c = c .before .loop .inv .3
 
 same-length-10 : tie.Need-same-length-10 Inv-loop μ-loop
-same-length-10 c = sources-kept (c .before)
+same-length-10 c = c .before .loop .inv .4
 
 returns-2 : tie.Need-returns-2 Inv-loop μ-loop
 returns-2 c =

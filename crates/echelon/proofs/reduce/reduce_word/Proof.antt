@@ -38,7 +38,7 @@ slice-read-word : tie.Need-slice-read-word Inv-loop μ-loop
 slice-read-word c = omega (arith, c .before .before .before .before .before .pre .2 .words)
 
 head-of-requires : tie.Need-head-of-requires Inv-loop μ-loop
-head-of-requires c κs = omega (arith, c .before .before .before .before .before .pre .4 .heads-length)
+head-of-requires c κs = omega (arith, c .before .before .before .before .before .pre .4 .heads-wide)
 
 loop-holds : tie.Need-loop-holds Inv-loop μ-loop
 loop-holds c =
@@ -112,7 +112,7 @@ mul-s-2 : tie.Need-mul-s-2 Inv-loop μ-loop
 mul-s-2 c = omega (arith, below c, startOf c .pre .0)
 
 shared-slice-read-s : tie.Need-shared-slice-read-s Inv-loop μ-loop
-shared-slice-read-s c = omega (arith, below (c .before), startOf (c .before) .pre .4 .sources-length)
+shared-slice-read-s c = omega (arith, below (c .before), startOf (c .before) .pre .4 .sources-wide)
 
 add-add-words : tie.Need-add-add-words Inv-loop μ-loop
 add-add-words c = omega arith
@@ -144,7 +144,7 @@ add-additions c =
 head-of-requires-2 : tie.Need-head-of-requires-2 Inv-loop μ-loop
 head-of-requires-2 c κs =
     let start = startOf (c .before .before .before .before .before .before .before) in
-    omega (arith, start .pre .4 .heads-length)
+    omega (arith, start .pre .4 .heads-wide)
 
 loop-less : tie.Need-loop-less Inv-loop μ-loop
 loop-less c =
