@@ -11,7 +11,7 @@ use lib.Seq.{getD-set-same, getD-set-other}
 use lib.Arith.{lt-of-le-ne}
 use lib.Dec.{eqb}
 use Rattle.rows.specs.Row.{Row}
-use Rattle.rows.specs.Flat.{row, rowAt}
+use Rattle.rows.specs.Flat.{rowAt}
 use Rattle.echelon.specs.Forward.{sameLow, empty, find}
 use Rattle.echelon.specs.Eliminate.{rowsTo}
 use Rattle.echelon.specs.Promises.{Lowest}

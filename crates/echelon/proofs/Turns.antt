@@ -1,5 +1,5 @@
 -- The turns of `reduce_word`: row t whose words before word i are empty, with word i in a local.
-use Prim.Native.Nat.{ℕ, zero, suc, _+_, _-_, _*_, _^_, _≤_, _<_}
+use Prim.Native.Nat.{ℕ, zero, suc, _+_, _*_, _^_, _≤_, _<_}
 use mathlib.Core.Path.{_≡_, sym, ap, ap₂, _∙_}
 use mathlib.Core.List.{List, [], _∷_, _++_, zipWith}
 use mathlib.Core.Bool.{Bool}
@@ -24,12 +24,12 @@ use Rattle.echelon.specs.Forward.{find}
 use Rattle.echelon.specs.Eliminate.{rowsTo}
 use Rattle.echelon.specs.Steps.{addedFrom, Clean, OnlyRow, EmptyTo, rest, Onward, Reduced}
 use Rattle.echelon.proofs.Lows.{rest-falls}
-use Rattle.echelon.proofs.Replaced.{parts, put-row, put-only, set-put, only-start, only-join}
+use Rattle.echelon.proofs.Replaced.{put-row, put-only, set-put, only-start, only-join}
 use Rattle.echelon.proofs.Onwards.{onward-start, onward-next, find-same}
 
 -- ---- words as one number, in two parts
 
-packed-parts : (k : ℕ) (l : List ℕ) (i : ℕ) → i ≤ length l → packed k l ≡ packed k (drop i l) * 2 ^ (i * k) + packed k (take i l)
+pub packed-parts : (k : ℕ) (l : List ℕ) (i : ℕ) → i ≤ length l → packed k l ≡ packed k (drop i l) * 2 ^ (i * k) + packed k (take i l)
 unfolding packed
 packed-parts k l zero h = omega (arith, ap (λ (n : ℕ). packed k l * 2 ^ n) (zero-mul k))
 packed-parts k [] (suc i) h = let z : ⊥ = omega arith in absurd z

@@ -1,8 +1,9 @@
 -- `probe` as a whole: refused, refuted, or what elimination leaves.
-use Prim.Native.Nat.{ℕ, _*_, min}
+use Prim.Native.Nat.{ℕ, _*_, _≤_, min}
 use mathlib.Core.Path.{_≡_, sym, ap, _∙_}
 use mathlib.Core.List.{List}
 use mathlib.Core.Bool.{Bool, true, false, cond, not, _||_}
+use native.Mathlib.Omega.{arith}
 use borrow.Author.Tests.{ltb-false, eqb-true, not-false}
 use lib.ListN.{length, take}
 use lib.Dec.{ltb, eqb}
@@ -29,6 +30,7 @@ use Rattle.probe.specs.declared.eliminate.Eliminated.{Eliminated}
 -- what a probe that no number refuses has been lent
 pub record Lent (s : System) (ws cs ps : List ℕ) (r : Region) : Type 0 where
   pub named : Named (s .atoms) (s .rank) ws cs ps
+  pub ranked : s .rank ≤ s .atoms
   pub region : regionUnfit r ≡ 0
   pub same : r .atoms ≡ s .atoms
 
@@ -53,6 +55,7 @@ module _ (s : System) (ws cs ps : List ℕ) (r : Region) where
             named-of s ws cs ps
             (fit-of (s .atoms) (s .rows) ws cs (strange .0) (ltb-false 512 (s .atoms) (system .0)) (ltb-false 512 (s .rows) (system .1)) (ltb-false _ _ (rows .0)) (ltb-false _ _ (rows .1)))
             (ltb-false (min (s .rows) (s .atoms)) (s .rank) (rank .0)) (ltb-false _ _ (room .1)) (names-each (s .rows) ps (s .rank) (name .0));
+        ranked = omega (arith, ltb-false (min (s .rows) (s .atoms)) (s .rank) (rank .0));
         region = simp (limits .1, strange .1, clash .0);
         same = eqb-true (r .atoms) (s .atoms) (not-false _ (count .0));
       }

@@ -1,103 +1,59 @@
 -- What the private functions of `probe` ask and leave, for their contracts alone: no reader has to believe it, since `probe` asks nothing.
-use Prim.Native.Nat.{ℕ, _+_, _*_, _^_, _≤_, _<_}
+use Prim.Native.Nat.{ℕ, _+_, _*_, _%_, _^_, _≤_, _<_}
 use mathlib.Core.Path.{_≡_}
-use mathlib.Core.List.{List, [], _∷_, map}
-use mathlib.Core.Bool.{Bool, true, false, cond, not}
-use mathlib.Core.Logic.{_⊎_}
-use lib.ListN.{length, getD, set}
-use lib.Dec.{leb}
-use Rattle.words.specs.Set.{setOf, has}
-use Rattle.words.specs.Calls.{inserted}
+use mathlib.Core.List.{List, map, zipWith}
+use lib.ListN.{length, getD}
+use lib.Bits.{bitAnd, bitXor}
+use lib.Count.{ones}
+use Rattle.words.specs.Set.{setOf}
 use Rattle.rows.specs.Row.{Row}
 use Rattle.rows.specs.Decisions.{Decisions}
-use Rattle.rows.specs.Triangular.{Triangular}
-use Rattle.rows.specs.Flat.{row, atomsOf}
+use Rattle.rows.specs.Flat.{widthOf, row, rowAt, atomsOf}
 use Rattle.echelon.specs.Forward.{low}
-use Rattle.echelon.specs.Promises.{Sized}
-use Rattle.echelon.specs.Steps.{put}
 use Rattle.region.specs.Masks.{isHeld, isOpen}
-use Rattle.probe.specs.Elimination.{substituted, reducedBy, Kept, keeps}
-use Rattle.probe.specs.declared.eliminate.Fate.{Fate}
+use Rattle.probe.specs.Elimination.{substituted, Kept}
 use Rattle.probe.specs.declared.eliminate.Eliminated.{Eliminated}
 
--- A row over n atoms by its set and its constant.
-abbrev pub asRow : ℕ → ℕ → Bool → Row
-asRow n x c = record { atoms = atomsOf n x; constant = c }
+-- The lowest atoms of rows.
+abbrev pub pivots : List Row → List ℕ
+pivots ks = map (λ k. low (k .atoms)) ks
+
+-- Two masks of eight words.
+pub record Wide (held free : List ℕ) : Type 0 where
+  pub held-wide : length held ≡ 8
+  pub free-wide : length free ≡ 8
 
 -- The masks of the atoms that decisions hold, and leave open.
 pub record Masked (n : ℕ) (p : Decisions) (held free : List ℕ) : Type 0 where
   pub held-are : map isHeld p ≡ atomsOf n (setOf held)
   pub open-are : map isOpen p ≡ atomsOf n (setOf free)
 
--- Words and constant of a row with its decided atoms taken out.
-pub record Opened (n : ℕ) (r : Row) (held free left : List ℕ) (c : Bool) : Type 0 where
-  pub wide : length left ≡ 8
-  pub fits : setOf left < 2 ^ n
-  pub row : (p : Decisions) → Masked n p held free → asRow n (setOf left) c ≡ substituted p r
+-- Memory for so many rows over n atoms.
+pub record Room (n rank : ℕ) (left cs : List ℕ) : Type 0 where
+  pub words : rank * widthOf n ≤ length left
+  pub constants : rank ≤ length cs
 
--- ---- the rows kept
+-- Row j of the memory and row s of the words, of so many words each, lie within.
+pub record Within (w : ℕ) (left cs′ : List ℕ) (j : ℕ) (ws cs : List ℕ) (s : ℕ) : Type 0 where
+  pub narrow : w ≤ 8
+  pub words : j * w + w ≤ length left
+  pub constant : j < length cs′
+  pub words′ : s * w + w ≤ length ws
+  pub constant′ : s < length cs
 
--- The lowest atoms of rows.
-abbrev pub pivots : List Row → List ℕ
-pivots ks = map (λ k. low (k .atoms)) ks
+-- The open atoms of row s in words, and its constant flipped by each atom held.
+abbrev pub openOf : ℕ → (free ws : List ℕ) → ℕ → List ℕ
+openOf w free ws s = zipWith bitAnd (row w ws s) free
 
-abbrev pub Among : Row → List Row → Type 0
-Among k [] = ⊥
-Among k (j ∷ js) = (k ≡ j) ⊎ Among k js
+abbrev pub flippedOf : ℕ → (held ws cs : List ℕ) → ℕ → ℕ
+flippedOf w held ws cs s = bitXor (getD cs s 0) (ones (bitAnd (setOf (row w ws s)) (setOf held)) % 2)
 
--- The memory: the mask of pivots, and places of eight words with a constant each.
-pub record Room (pv kept : List ℕ) (cs : List Bool) : Type 0 where
-  pub pivots : length pv ≡ 8
-  pub rows : length kept ≡ length cs * 8
-  pub few : length cs ≤ 512
-
--- The row at place a of the memory.
-abbrev pub placed : ℕ → List ℕ → List Bool → ℕ → Row
-placed n kept cs a = asRow n (setOf (row 8 kept a)) (getD cs a false)
-
--- Place a has one of the rows kept, and a is its lowest atom.
-pub record Taken (n : ℕ) (ks : List Row) (kept : List ℕ) (cs : List Bool) (a : ℕ) : Type 0 where
-  pub among : Among (placed n kept cs a) ks
-  pub own : has (setOf (row 8 kept a)) a ≡ true
-  pub below : (b : ℕ) → b < a → has (setOf (row 8 kept a)) b ≡ false
-  pub fits : setOf (row 8 kept a) < 2 ^ n
-
--- The mask of pivots names the places taken, and the lowest atoms of all rows kept.
-pub record Stored (n : ℕ) (ks : List Row) (pv kept : List ℕ) (cs : List Bool) : Type 0 where
-  pub places : n ≤ length cs
-  pub sized : Sized n ks
-  pub taken : (a : ℕ) → has (setOf pv) a ≡ true → Taken n ks kept cs a
-  pub marked : (k : Row) → Among k ks → has (setOf pv) (low (k .atoms)) ≡ true
-
--- A row reduced by the rows kept, whichever the memory holds.
-abbrev pub Reduced : (pv kept : List ℕ) (cs : List Bool) (left : List ℕ) (c : Bool) (left′ : List ℕ) (c′ : Bool) → Type 0
-Reduced pv kept cs left c left′ c′ =
-    (n : ℕ) (p : Decisions) (ks : List Row) → Triangular p (pivots ks) ks → Stored n ks pv kept cs → setOf left < 2 ^ n
-    → (setOf left′ < 2 ^ n) × (asRow n (setOf left′) c′ ≡ reducedBy ks (asRow n (setOf left) c))
-
--- What `keep` makes of a row by its lowest atom, which has no place where it has none: its fate, the pivots, and the memory.
-abbrev pub fateOf : ℕ → ℕ → Bool → Fate
-fateOf places a c = cond (leb places a) (record { kept = 0; sound = not c }) (record { kept = 1; sound = true })
-
-abbrev pub pivotsWith : ℕ → ℕ → List ℕ → List ℕ
-pivotsWith places a pv = cond (leb places a) pv (inserted pv a)
-
-abbrev pub keptWith : ℕ → ℕ → List ℕ → List ℕ → List ℕ
-keptWith places a left kept = cond (leb places a) kept (put 8 a kept left)
-
-abbrev pub constantsWith : ℕ → Bool → List Bool → List Bool
-constantsWith a c cs = cond (leb (length cs) a) cs (set cs a c)
-
--- What becomes of the rows kept and the memory by what is left of a row, and its fate.
-pub record Stepped (n : ℕ) (ks : List Row) (s : Row) (fate : Fate) (pv kept : List ℕ) (cs : List Bool) : Type 0 where
-  pub stored : Stored n (keeps ks s .rows) pv kept cs
-  pub sound : fate .sound ≡ keeps ks s .sound
-  pub count : length (keeps ks s .rows) ≡ length ks + fate .kept
-
-abbrev pub Becomes : ℕ → (held free : List ℕ) → Row → (pv kept : List ℕ) (cs : List Bool) → Fate → (pv′ kept′ : List ℕ) (cs′ : List Bool) → Type 0
-Becomes n held free r pv kept cs fate pv′ kept′ cs′ =
-    (p : Decisions) (ks : List Row) → Masked n p held free → Triangular p (pivots ks) ks → Stored n ks pv kept cs
-    → Stepped n ks (reducedBy ks (substituted p r)) fate pv′ kept′ cs′
+-- The first j rows in memory are fit, and they are those that the basis names with the decided atoms taken out.
+pub record Opened (n : ℕ) (held free ws cs ps left cs′ : List ℕ) (j : ℕ) : Type 0 where
+  pub fits : (i : ℕ) → i < j → setOf (row (widthOf n) left i) < 2 ^ n
+  pub small : (i : ℕ) → i < j → getD cs′ i 0 < 2
+  pub rows : (p : Decisions) → Masked n p held free → (i : ℕ) → i < j
+      → rowAt n (widthOf n) left cs′ i ≡ substituted p (rowAt n (widthOf n) ws cs (getD ps i 0))
 
 -- What is told of the rows kept.
 abbrev pub told : Kept → Eliminated

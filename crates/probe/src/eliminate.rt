@@ -1,32 +1,25 @@
-// Elimination over the open atoms: "Basis rows in order, decided atoms taken out, each held one flipping the constant. Each row kept so far
-// .. is added where the new row has its lowest atom."
-// A row kept stands at the place of its lowest atom, so that no lowest atom is searched again; the mask of pivots names the places taken.
-// Up to 8 atoms, and up to 64, a smaller memory serves, which is sooner cleared.
-// Rows kept are added by rising lowest atom, which leaves the same row as document 01's order (proofs/Canonical.antt).
+// Elimination over the open atoms: "Basis rows in order, decided atoms taken out, each held one flipping the constant."
+// The rows are written into memory of the probe's own, and `echelon` eliminates them there. It stops at a lowest atom without a pivot, where
+// document 01 adds every row kept; as many rows are kept, and no is said at the same row (proofs/Agreed.antt).
 use parity::System;
 use region::Region;
 use rows::Ordinal;
 use rows::Source;
 ghost use mathlib.Core.Path.{_≡_};
-ghost use Prim.Native.Nat.{_+_, _*_, _≤_, _<_};
-ghost use lib.ListN.{length, getD, replicate, take};
+ghost use mathlib.Core.List.{zipWith};
+ghost use Prim.Native.Nat.{_%_, _≤_, _<_, min};
+ghost use lib.ListN.{length, getD, set, take};
 ghost use lib.Bits.{bitAnd};
+ghost use lib.Count.{ones};
 ghost use Rattle.words.specs.Set.{setOf};
 ghost use Rattle.rows.specs.Decisions.{Decisions};
-ghost use Rattle.rows.specs.Flat.{widthOf, rowAt};
 ghost use Rattle.echelon.specs.Steps.{put};
 ghost use Rattle.parity.specs.Basis.{basisOf};
-ghost use Rattle.region.specs.Masks.{decisions, nextOf};
+ghost use Rattle.region.specs.Masks.{decisions};
 ghost use Rattle.region.specs.Calls.{regionUnfit};
-ghost use Rattle.inspect.specs.Steps.{Legible, Named};
+ghost use Rattle.inspect.specs.Steps.{Named};
 ghost use Rattle.probe.specs.Elimination.{eliminated};
-ghost use Rattle.probe.specs.Steps.{Masked, Opened, Room, Reduced, fateOf, pivotsWith, keptWith, constantsWith, Becomes, told};
-
-// What becomes of a row: how many rows it adds to those kept, and whether it is not left empty with constant 1.
-struct Fate {
-    kept: usize,
-    sound: bool,
-}
+ghost use Rattle.probe.specs.Steps.{Wide, Masked, Room, Within, openOf, flippedOf, Opened, told};
 
 // How many rows are kept, and whether none was left empty with constant 1.
 pub struct Eliminated {
@@ -34,166 +27,114 @@ pub struct Eliminated {
     pub sound: bool,
 }
 
-// The open atoms of a row, written over no atoms.
-fn open_words(left: &mut [u64; 8], words: &[u64], free: &[u64; 8])
-    requires { ⌜ (length (now words) ≤ 8) × (now left ≡ replicate 8 0) × (length (now free) ≡ 8) ⌝ }
-    ensures wide { λ _. ⌜ length (now (left .exit)) ≡ 8 ⌝ }
-    ensures set { λ _. ⌜ setOf (now (left .exit)) ≡ bitAnd (setOf (now (words .entry))) (setOf (now (free .entry))) ⌝ }
+// Writes the open atoms of a row, and gives back the parity of its held ones.
+fn open_words(left: &mut [u64], words: &[u64], held: &[u64; 8], free: &[u64; 8]) -> u8
+    requires { ⌜ (length (now words) ≤ 8) × (length (now left) ≡ length (now words)) × Wide (now held) (now free) ⌝ }
+    ensures left { λ _. ⌜ now (left .exit) ≡ zipWith bitAnd (now (words .entry)) (now (free .entry)) ⌝ }
+    ensures parity { λ r. ⌜ r ≡ ones (bitAnd (setOf (now (words .entry))) (setOf (now (held .entry)))) % 2 ⌝ }
 {
+    let mut sum: u64 = 0;
     let mut i = 0;
     while i < words.len() {
         left[i] = words[i] & free[i];
+        sum = sum ^ (words[i] & held[i]);
         i += 1;
     }
+    (u64::count_ones(sum) % 2) as u8
 }
 
-// "decided atoms taken out, each held one flipping the constant": writes the atoms left over no atoms, and gives back the constant.
+// "decided atoms taken out, each held one flipping the constant": a row written at its place in the memory.
 fn substitute(
-    left: &mut [u64; 8],
-    n: usize,
+    left: &mut [u64],
+    left_constants: &mut [u8],
+    place: Ordinal,
+    width: usize,
     rows: &[u64],
     constants: &[u8],
     number: Source,
     held: &[u64; 8],
     free: &[u64; 8],
-) -> bool
-    requires { ⌜ (now left ≡ replicate 8 0) × Legible n (now rows) (now constants) (number .0) × (length (now free) ≡ 8) ⌝ }
-    ensures { λ r. ⌜ Opened n (rowAt n (widthOf n) (now (rows .entry)) (now (constants .entry)) (number .0)) (now (held .entry)) (now (free .entry)) (now (left .exit)) r ⌝ }
+)
+    requires { ⌜ Within width (now left) (now «left_constants») (place .0) (now rows) (now constants) (number .0) × Wide (now held) (now free) ⌝ }
+    ensures words { λ _. ⌜ now (left .exit) ≡ put width (place .0) (now (left .entry)) (openOf width (now (free .entry)) (now (rows .entry)) (number .0)) ⌝ }
+    ensures constant { λ _. ⌜ now («left_constants» .exit) ≡ set (now («left_constants» .entry)) (place .0) (flippedOf width (now (held .entry)) (now (rows .entry)) (now (constants .entry)) (number .0)) ⌝ }
 {
-    let width = rows::width(n);
-    open_words(left, rows::row(rows, width, number), free);
+    let start = place.0 * width;
+    let end = start + width;
+    let from = number.0 * width;
+    let to = from + width;
+    let flips = open_words(&mut left[start..end], &rows[from..to], held, free);
     let source = number.0;
-    let constant = constants[source] == 1;
-    let flips = rows::overlaps_odd(rows, width, number, held);
-    constant != flips
+    let at = place.0;
+    left_constants[at] = constants[source] ^ flips;
 }
 
-// Adds rows kept until none of their lowest atoms is left, and gives back the constant.
-fn reduce(
-    left: &mut [u64; 8],
-    constant: bool,
-    pivots: &[u64; 8],
-    kept: &[u64],
-    constants: &[bool],
-) -> bool
-    requires { ⌜ (length (now left) ≡ 8) × Room (now pivots) (now kept) (now constants) ⌝ }
-    ensures wide { λ _. ⌜ length (now (left .exit)) ≡ 8 ⌝ }
-    ensures reduced { λ r. ⌜ Reduced (now (pivots .entry)) (now (kept .entry)) (now (constants .entry)) (now (left .entry)) constant (now (left .exit)) r ⌝ }
-{
-    let mut odd = constant;
-    let mut a = region::next_common(left, pivots, 0);
-    while a < constants.len() {
-        words::xor_assign(left, rows::part(kept, 8, a));
-        odd = odd != constants[a];
-        a = region::next_common(left, pivots, a + 1);
-    }
-    odd
-}
-
-// Writes a row at its place.
-fn store(kept: &mut [u64], place: usize, left: &[u64; 8])
-    requires { ⌜ (place * 8 + 8 ≤ length (now kept)) × (length (now left) ≡ 8) ⌝ }
-    ensures { λ _. ⌜ now (kept .exit) ≡ put 8 place (now (kept .entry)) (now (left .entry)) ⌝ }
-{
-    let start = place * 8;
-    let mut i = 0;
-    while i < 8 {
-        kept[start + i] = left[i];
-        i += 1;
-    }
-}
-
-// "What is left is kept if not empty; empty with constant 1 is no."
-fn keep(
-    left: &[u64; 8],
-    constant: bool,
-    pivots: &mut [u64; 8],
-    kept: &mut [u64],
-    constants: &mut [bool],
-) -> Fate
-    requires { ⌜ (length (now left) ≡ 8) × Room (now pivots) (now kept) (now constants) ⌝ }
-    ensures fate { λ r. ⌜ r ≡ fateOf (length (now (constants .entry))) (nextOf (setOf (now (left .entry))) 0) constant ⌝ }
-    ensures pivots { λ _. ⌜ now (pivots .exit) ≡ pivotsWith (length (now (constants .entry))) (nextOf (setOf (now (left .entry))) 0) (now (pivots .entry)) ⌝ }
-    ensures kept { λ _. ⌜ now (kept .exit) ≡ keptWith (length (now (constants .entry))) (nextOf (setOf (now (left .entry))) 0) (now (left .entry)) (now (kept .entry)) ⌝ }
-    ensures constants { λ _. ⌜ now (constants .exit) ≡ constantsWith (nextOf (setOf (now (left .entry))) 0) constant (now (constants .entry)) ⌝ }
-{
-    let lowest = region::next(left, 0);
-    if lowest >= constants.len() {
-        return Fate {
-            kept: 0,
-            sound: !constant,
-        };
-    }
-    store(kept, lowest, left);
-    constants[lowest] = constant;
-    words::insert(pivots, lowest);
-    Fate {
-        kept: 1,
-        sound: true,
-    }
-}
-
-// One row more.
-fn take_row(
-    n: usize,
-    rows: &[u64],
-    constants: &[u8],
-    number: Source,
-    held: &[u64; 8],
-    free: &[u64; 8],
-    pivots: &mut [u64; 8],
-    kept: &mut [u64],
-    kept_constants: &mut [bool],
-) -> Fate
-    requires { ⌜ Legible n (now rows) (now constants) (number .0) × (length (now free) ≡ 8) × Room (now pivots) (now kept) (now «kept_constants») ⌝ }
-    ensures few { λ r. ⌜ r .kept ≤ 1 ⌝ }
-    ensures room { λ _. ⌜ Room (now (pivots .exit)) (now (kept .exit)) (now («kept_constants» .exit)) ⌝ }
-    ensures becomes { λ r. ⌜ Becomes n (now (held .entry)) (now (free .entry)) (rowAt n (widthOf n) (now (rows .entry)) (now (constants .entry)) (number .0)) (now (pivots .entry)) (now (kept .entry)) (now («kept_constants» .entry)) r (now (pivots .exit)) (now (kept .exit)) (now («kept_constants» .exit)) ⌝ }
-{
-    let mut left = [0u64; 8];
-    let constant = substitute(&mut left, n, rows, constants, number, held, free);
-    let odd = reduce(&mut left, constant, pivots, kept, kept_constants);
-    keep(&left, odd, pivots, kept, kept_constants)
-}
-
-// The row that a place of the basis names.
-fn take_at(
-    n: usize,
+// The row that a place of the basis names, written at that place.
+fn substitute_at(
+    left: &mut [u64],
+    left_constants: &mut [u8],
+    place: Ordinal,
+    width: usize,
     rows: &[u64],
     constants: &[u8],
     basis: &[usize],
-    place: Ordinal,
     held: &[u64; 8],
     free: &[u64; 8],
-    pivots: &mut [u64; 8],
-    kept: &mut [u64],
-    kept_constants: &mut [bool],
-) -> Fate
-    requires { ⌜ (place .0 < length (now basis)) × Legible n (now rows) (now constants) (getD (now basis) (place .0) 0) × (length (now free) ≡ 8) × Room (now pivots) (now kept) (now «kept_constants») ⌝ }
-    ensures few { λ r. ⌜ r .kept ≤ 1 ⌝ }
-    ensures room { λ _. ⌜ Room (now (pivots .exit)) (now (kept .exit)) (now («kept_constants» .exit)) ⌝ }
-    ensures becomes { λ r. ⌜ Becomes n (now (held .entry)) (now (free .entry)) (rowAt n (widthOf n) (now (rows .entry)) (now (constants .entry)) (getD (now (basis .entry)) (place .0) 0)) (now (pivots .entry)) (now (kept .entry)) (now («kept_constants» .entry)) r (now (pivots .exit)) (now (kept .exit)) (now («kept_constants» .exit)) ⌝ }
+)
+    requires { ⌜ (place .0 < length (now basis)) × Within width (now left) (now «left_constants») (place .0) (now rows) (now constants) (getD (now basis) (place .0) 0) × Wide (now held) (now free) ⌝ }
+    ensures words { λ _. ⌜ now (left .exit) ≡ put width (place .0) (now (left .entry)) (openOf width (now (free .entry)) (now (rows .entry)) (getD (now (basis .entry)) (place .0) 0)) ⌝ }
+    ensures constant { λ _. ⌜ now («left_constants» .exit) ≡ set (now («left_constants» .entry)) (place .0) (flippedOf width (now (held .entry)) (now (rows .entry)) (now (constants .entry)) (getD (now (basis .entry)) (place .0) 0)) ⌝ }
 {
     match rows::source_at(basis, place) {
-        rows::Entry::Names(number) => take_row(
-            n,
+        rows::Entry::Names(number) => substitute(
+            left,
+            left_constants,
+            place,
+            width,
             rows,
             constants,
             number,
             held,
             free,
-            pivots,
-            kept,
-            kept_constants,
         ),
-        rows::Entry::Nothing => Fate {
-            kept: 0,
-            sound: true,
-        },
+        rows::Entry::Nothing => {}
     }
 }
 
-// The basis rows in order, until one is left empty with constant 1. No row is kept at first.
+// The basis rows in order.
+fn substitute_rows(
+    left: &mut [u64],
+    left_constants: &mut [u8],
+    n: usize,
+    rank: usize,
+    rows: &[u64],
+    constants: &[u8],
+    basis: &[usize],
+    held: &[u64; 8],
+    free: &[u64; 8],
+)
+    requires { ⌜ Named n rank (now rows) (now constants) (now basis) × Room n rank (now left) (now «left_constants») × Wide (now held) (now free) ⌝ }
+    ensures { λ _. ⌜ Opened n (now (held .entry)) (now (free .entry)) (now (rows .entry)) (now (constants .entry)) (now (basis .entry)) (now (left .exit)) (now («left_constants» .exit)) rank ⌝ }
+{
+    let width = rows::width(n);
+    let mut j = 0;
+    while j < rank {
+        substitute_at(
+            left,
+            left_constants,
+            Ordinal(j),
+            width,
+            rows,
+            constants,
+            basis,
+            held,
+            free,
+        );
+        j += 1;
+    }
+}
+
+// The basis rows over the open atoms, in memory that has room for them and for their pivots.
 fn eliminate_rows(
     n: usize,
     rank: usize,
@@ -202,45 +143,33 @@ fn eliminate_rows(
     basis: &[usize],
     held: &[u64; 8],
     free: &[u64; 8],
-    pivots: &mut [u64; 8],
-    kept: &mut [u64],
-    kept_constants: &mut [bool],
+    left: &mut [u64],
+    left_constants: &mut [u8],
+    pivots: &mut [usize],
 ) -> Eliminated
-    requires { ⌜ Named n rank (now rows) (now constants) (now basis) × (length (now free) ≡ 8) × (setOf (now pivots) ≡ 0) × Room (now pivots) (now kept) (now «kept_constants») × (n ≤ length (now «kept_constants»)) ⌝ }
+    requires { ⌜ Named n rank (now rows) (now constants) (now basis) × (n ≤ 512) × Room n rank (now left) (now «left_constants») × (min rank n ≤ length (now pivots)) × Wide (now held) (now free) ⌝ }
     ensures { λ r. ⌜ ((p : Decisions) → Masked n p (now (held .entry)) (now (free .entry)) → r ≡ told (eliminated p (basisOf n (now (rows .entry)) (now (constants .entry)) (take rank (now (basis .entry)))))) ⌝ }
 {
-    let mut count = 0;
-    let mut j = 0;
-    while j < rank {
-        let fate = take_at(
-            n,
-            rows,
-            constants,
-            basis,
-            Ordinal(j),
-            held,
-            free,
-            pivots,
-            kept,
-            kept_constants,
-        );
-        count += fate.kept;
-        if !fate.sound {
-            return Eliminated {
-                kept: count,
-                sound: false,
-            };
-        }
-        j += 1;
-    }
+    substitute_rows(
+        left,
+        left_constants,
+        n,
+        rank,
+        rows,
+        constants,
+        basis,
+        held,
+        free,
+    );
+    let done = echelon::eliminate(n, rank, left, left_constants, pivots);
     Eliminated {
-        kept: count,
-        sound: true,
+        kept: done.rank,
+        sound: !done.refuted,
     }
 }
 
 // The basis rows of a system over what a region leaves open. The open atoms are those that are not held and not cut; no row has an atom
-// from n on.
+// from n on. Memory is taken by what the rows need, since it is cleared first.
 pub fn eliminate(
     system: System,
     rows: &[u64],
@@ -248,33 +177,17 @@ pub fn eliminate(
     basis: &[usize],
     region: Region,
 ) -> Eliminated
-    requires { ⌜ Named (system .atoms) (system .rank) (now rows) (now constants) (now basis) × (regionUnfit region ≡ 0) × (region .atoms ≡ system .atoms) ⌝ }
+    requires { ⌜ Named (system .atoms) (system .rank) (now rows) (now constants) (now basis) × (system .rank ≤ system .atoms) × (regionUnfit region ≡ 0) × (region .atoms ≡ system .atoms) ⌝ }
     ensures { λ r. ⌜ r ≡ told (eliminated (decisions region) (basisOf (system .atoms) (now (rows .entry)) (now (constants .entry)) (take (system .rank) (now (basis .entry))))) ⌝ }
 {
     let held = region.held;
     let mut free = [0xffff_ffff_ffff_ffffu64; 8];
     words::xor_assign(&mut free, &region.held);
     words::xor_assign(&mut free, &region.cut);
-    let mut pivots = [0u64; 8];
-    if system.atoms <= 8 {
-        let mut least = [0u64; 64];
-        let mut least_constants = [false; 8];
-        return eliminate_rows(
-            system.atoms,
-            system.rank,
-            rows,
-            constants,
-            basis,
-            &held,
-            &free,
-            &mut pivots,
-            &mut least,
-            &mut least_constants,
-        );
-    }
     if system.atoms <= 64 {
-        let mut few = [0u64; 512];
-        let mut few_constants = [false; 64];
+        let mut few = [0u64; 64];
+        let mut few_constants = [0u8; 64];
+        let mut few_pivots = [0usize; 64];
         return eliminate_rows(
             system.atoms,
             system.rank,
@@ -283,13 +196,29 @@ pub fn eliminate(
             basis,
             &held,
             &free,
-            &mut pivots,
             &mut few,
             &mut few_constants,
+            &mut few_pivots,
         );
     }
-    let mut kept = [0u64; 4096];
-    let mut kept_constants = [false; 512];
+    let mut left_constants = [0u8; 512];
+    let mut pivots = [0usize; 512];
+    if system.rank * rows::width(system.atoms) <= 512 {
+        let mut some = [0u64; 512];
+        return eliminate_rows(
+            system.atoms,
+            system.rank,
+            rows,
+            constants,
+            basis,
+            &held,
+            &free,
+            &mut some,
+            &mut left_constants,
+            &mut pivots,
+        );
+    }
+    let mut left = [0u64; 4096];
     eliminate_rows(
         system.atoms,
         system.rank,
@@ -298,8 +227,8 @@ pub fn eliminate(
         basis,
         &held,
         &free,
+        &mut left,
+        &mut left_constants,
         &mut pivots,
-        &mut kept,
-        &mut kept_constants,
     )
 }

@@ -2,6 +2,8 @@
 use parity::System;
 use region::Region;
 ghost use mathlib.Core.Path.{_≡_};
+ghost use Prim.Native.Nat.{_≤_};
+ghost use lib.ListN.{length, take};
 ghost use lib.Count.{ones};
 ghost use Rattle.words.specs.Set.{setOf};
 ghost use Rattle.rows.specs.Decisions.{undecided};
@@ -34,24 +36,26 @@ fn told(number: usize, yes: bool, undecided: usize, kept: usize) -> Probed
     }
 }
 
-// How many atoms a mask has.
-fn size(mask: &[u64; 8]) -> usize
-    ensures { λ r. ⌜ r ≡ ones (setOf (now (mask .entry))) ⌝ }
+// How many atoms the first words of a mask have.
+fn size(mask: &[u64], width: usize) -> usize
+    requires { ⌜ (width ≤ 8) × (width ≤ length (now mask)) ⌝ }
+    ensures { λ r. ⌜ r ≡ ones (setOf (take width (now (mask .entry)))) ⌝ }
 {
-    match words::count(mask) {
+    match words::count(&mask[..width]) {
         words::Counted::Are(n) => n,
         words::Counted::Unequal => 0,
         words::Counted::TooWide => 0,
     }
 }
 
-// "u counts atoms neither held nor cut."
+// "u counts atoms neither held nor cut." No mask has one past the words that the atoms take.
 fn open_count(region: Region) -> usize
     requires { ⌜ regionUnfit region ≡ 0 ⌝ }
     ensures { λ r. ⌜ r ≡ undecided (decisions region) ⌝ }
 {
-    let held = size(&region.held);
-    let cut = size(&region.cut);
+    let width = rows::width(region.atoms);
+    let held = size(&region.held, width);
+    let cut = size(&region.cut, width);
     region.atoms - held - cut
 }
 

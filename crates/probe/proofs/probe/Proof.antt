@@ -41,7 +41,7 @@ eliminate-requires c κs =
     let called = fit .before in
     let a = called .before .before .before .before .args in
     let is = lent (a .system) (a .rows .now) (a .constants .now) (a .basis .now) (a .region) (called .unfit .result) (called .unfit .ensures) (fit .if1 .left) in
-    (is .named, is .region, is .same)
+    (is .named, is .ranked, is .region, is .same)
 
 told-requires-3 : tie.Need-told-requires-3
 told-requires-3 c κs = search needs

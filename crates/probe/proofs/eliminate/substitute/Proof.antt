@@ -1,71 +1,98 @@
--- `eliminate::substitute` meets its contract: the words left are the open atoms of the row, and held ones flip the constant.
-use Prim.Native.Nat.{ℕ}
-use mathlib.Core.Path.{_≡_, refl, ap, _∙_}
-use mathlib.Core.List.{List}
-use native.Mathlib.Omega.{arith}
-use lib.ListN.{length}
-use lib.Bits.{bitAnd}
+-- `eliminate::substitute` meets its contract: the row's open atoms go to its place, and held ones flip the constant.
+use Prim.Native.Nat.{ℕ, _%_}
+use mathlib.Core.Path.{ap, _∙_}
+use mathlib.Core.List.{List, zipWith}
+use lib.ListN.{getD, set}
+use lib.Bits.{bitAnd, bitXor}
+use lib.Count.{ones}
 use Rattle.words.specs.Set.{setOf}
-use Rattle.rows.specs.Flat.{widthOf, row}
-use Rattle.rows.specs.Calls.{rowOf, overlapParityOf, isOdd}
-use Rattle.rows.proofs.Places.{row-length}
-use Rattle.parity.proofs.Naming.{row-words}
-use Rattle.parity.proofs.Ordinals.{width-few}
-use Rattle.inspect.proofs.Overlaps.{odd-is}
-use Rattle.probe.proofs.Opening.{opened}
+use Rattle.echelon.specs.Steps.{put}
+use Rattle.probe.proofs.Opening.{part-row, mid-row}
 use borrow.Author.Needs.{needs}
 use Rattle.probe.proofs.eliminate.substitute.Statement.{statement}
 use Rattle.probe.proofs.eliminate.substitute.Tie as tie
 
-abbrev begun : tie.After-row → tie.Start
-begun c = c .before .before .before .before .before
+mul-start : tie.Need-mul-start
+mul-start c = search needs
 
-width-requires : tie.Need-width-requires
-width-requires c κs = search needs
+add-end : tie.Need-add-end
+add-end c = search needs
 
-row-requires : tie.Need-row-requires
-row-requires c κs = search needs
+mul-from : tie.Need-mul-from
+mul-from c = search needs
 
-words-are : (c : tie.After-row) → let a = begun c .args in c .row .result .now ≡ row (widthOf (a .n)) (a .rows .now) (a .number .0)
-words-are c =
-    let a = begun c .args in
-    c .row .ensures ∙ ap (λ (w : ℕ). rowOf w (a .rows .now) (a .number)) (c .before .before .width .ensures)
-    ∙ row-words (widthOf (a .n)) (a .rows .now) (a .number) (begun c .pre .1 .words)
+add-to : tie.Need-add-to
+add-to c = search needs
+
+mul-open-words : tie.Need-mul-open-words
+mul-open-words c = search needs
+
+sub-open-words : tie.Need-sub-open-words
+sub-open-words c = search needs
+
+part-open-words-start : tie.Need-part-open-words-start
+part-open-words-start c = search needs
+
+part-open-words-end : tie.Need-part-open-words-end
+part-open-words-end c = search needs
+
+mul-open-words-2 : tie.Need-mul-open-words-2
+mul-open-words-2 c = search needs
+
+sub-open-words-2 : tie.Need-sub-open-words-2
+sub-open-words-2 c = search needs
+
+part-open-words-start-2 : tie.Need-part-open-words-start-2
+part-open-words-start-2 c = search needs
+
+part-open-words-end-2 : tie.Need-part-open-words-end-2
+part-open-words-end-2 c = search needs
 
 open-words-requires : tie.Need-open-words-requires
-open-words-requires c κs =
-    let start = begun c in
-    let a = start .args in
-    let wide : length (c .row .result .now) ≡ widthOf (a .n) =
-    ap length (words-are c) ∙ row-length (widthOf (a .n)) (a .rows .now) (a .number .0) (start .pre .1 .words) in
-    (omega (arith, width-few (a .n) (start .pre .1 .atoms)), start .pre .0, start .pre .2)
+open-words-requires c κs = search needs
 
-shared-slice-read-constant : tie.Need-shared-slice-read-constant
-shared-slice-read-constant c = omega (arith, begun (c .before .before) .pre .1 .constants)
+shared-slice-read-left-constants : tie.Need-shared-slice-read-left-constants
+shared-slice-read-left-constants c = search needs
 
-overlaps-odd-requires : tie.Need-overlaps-odd-requires
-overlaps-odd-requires c κs = search needs
+slice-write-left-constants : tie.Need-slice-write-left-constants
+slice-write-left-constants c = search needs
+
+same-length : tie.Need-same-length
+same-length c = search needs
+
+same-length-2 : tie.Need-same-length-2
+same-length-2 c = search needs
 
 returns : tie.Need-returns
 returns c =
-    let arg = c .before in
-    let wrote = arg .before .before in
-    let called = wrote .before in
-    let start = begun called in
-    let a = start .args in
-    let left = wrote .open-words .ensures in
-    opened (a .n) (a .rows .now) (a .constants .now) (a .number .0) (a .held .now) (a .free .now) (wrote .open-words .last .0) (start .pre .1) (left .0)
-    (left .1 ∙ ap (λ (l : List ℕ). bitAnd (setOf l) (setOf (a .free .now))) (words-are called)) (c .overlaps-odd .result)
-    (c .overlaps-odd .ensures ∙ ap (λ (w : ℕ). isOdd (overlapParityOf w (a .rows .now) (a .number) (a .held .now))) (called .before .before .width .ensures)
-    ∙ odd-is (a .n) (a .rows .now) (a .constants .now) (a .number) (a .held .now) (start .pre .1) (arg .overlaps-odd-arg .given .0) _ refl)
+    let wrote = c .before .before .before in
+    let a = wrote .before .before .before .before .before .before .before .before .before .args in
+    let own = part-row (a .width) (a .number .0) (a .rows .now) in (
+      mid-row (a .width) (a .place .0) (a .left .now) (wrote .open-words .last .0)
+          ∙ ap (put (a .width) (a .place .0) (a .left .now)) (wrote .open-words .ensures .0 ∙ ap (λ (l : List ℕ). zipWith bitAnd l (a .free .now)) own),
+      ap (λ (k : ℕ). set (a .left-constants .now) (a .place .0) (bitXor (getD (a .constants .now) (a .number .0) 0) k))
+          (wrote .open-words .ensures .1 ∙ ap (λ (l : List ℕ). ones (bitAnd (setOf l) (setOf (a .held .now))) % 2) own),
+    )
 
 pub substitute-spec : {M : Type 1} → statement M
 substitute-spec =
     tie.close
     (tie.spec
-    width-requires
-    row-requires
+    mul-start
+    add-end
+    mul-from
+    add-to
+    mul-open-words
+    sub-open-words
+    part-open-words-start
+    part-open-words-end
+    mul-open-words-2
+    sub-open-words-2
+    part-open-words-start-2
+    part-open-words-end-2
     open-words-requires
-    shared-slice-read-constant
-    overlaps-odd-requires
+    shared-slice-read-left-constants
+    slice-write-left-constants
+    same-length
+    same-length-2
     returns)

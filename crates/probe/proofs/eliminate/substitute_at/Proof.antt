@@ -1,10 +1,10 @@
--- `eliminate::take_at` meets its contract: the entry names the row.
+-- `eliminate::substitute_at` meets its contract: the entry names the row.
 use mathlib.Core.Path.{_≡_}
 use lib.ListN.{getD}
 use Rattle.parity.proofs.Naming.{names-source, names-some}
 use borrow.Author.Needs.{needs}
-use Rattle.probe.proofs.eliminate.take_at.Statement.{statement}
-use Rattle.probe.proofs.eliminate.take_at.Tie as tie
+use Rattle.probe.proofs.eliminate.substitute_at.Statement.{statement}
+use Rattle.probe.proofs.eliminate.substitute_at.Tie as tie
 
 source-at-requires : tie.Need-source-at-requires
 source-at-requires c κs = search needs
@@ -21,11 +21,11 @@ number-is c =
     let start = called .before .before .before .before .before .before in
     names-source (start .args .basis .now) (start .args .place) (start .pre .0) (called .source-at .result) (c .number .given .0 .0) (called .source-at .ensures) (c .number .given .1)
 
-take-row-requires : tie.Need-take-row-requires
-take-row-requires c κs =
-    let arm = c .before .before .before .before in
+substitute-requires : tie.Need-substitute-requires
+substitute-requires c κs =
+    let arm = c .before .before .before in
     let start = arm .before .before .before .before .before .before .before .before in
-    (rw (number-is arm) (start .pre .1), start .pre .2, start .pre .3)
+    (rw (number-is arm) (start .pre .1), start .pre .2)
 
 enum-told : tie.Need-enum-told
 enum-told c = search needs
@@ -39,9 +39,9 @@ same-length-2 c = search needs
 returns : tie.Need-returns
 returns c =
     let called = c .before .before .before .before in
-    let arm = called .before .before .before .before .before in
-    let all = called .take-row .ensures in
-    (all .0, (all .1 .0, (rw (number-is arm) at (all .1 .1))))
+    let all = called .substitute .ensures in
+    let named = number-is (called .before .before .before .before) in
+    (rw named at (all .0), rw named at (all .1))
 
 returns-2 : tie.Need-returns-2
 returns-2 c =
@@ -49,13 +49,13 @@ returns-2 c =
     let start = called .before .before .before .before .before .before in
     absurd (names-some (start .args .basis .now) (start .args .place) (start .pre .0) (called .source-at .result) (called .source-at .ensures) (c .enum-told .given .1))
 
-pub take-at-spec : {M : Type 1} → statement M
-take-at-spec =
+pub substitute-at-spec : {M : Type 1} → statement M
+substitute-at-spec =
     tie.close
     (tie.spec
     source-at-requires
     enum-known-number
-    take-row-requires
+    substitute-requires
     enum-told
     same-length
     same-length-2
