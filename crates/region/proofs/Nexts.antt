@@ -3,20 +3,18 @@ use Prim.Native.Nat.{ℕ, _+_, _-_, _*_, _/_, _%_, _^_, _≤_, _<_}
 use mathlib.Core.Path.{_≡_, refl, sym, ap, subst, _∙_}
 use mathlib.Core.List.{List}
 use mathlib.Core.Bool.{Bool, true, false, cond, not}
-use native.Mathlib.Nat.{mod-lt, mod-eq-of-lt, mul-assoc, suc-mul, zero-add, zero-mul, zero-div, mul-le-mul-right, mul-add-div-right, mul-one, div-one, lt-of-le-of-lt}
+use native.Mathlib.Nat.{mod-lt, mod-eq-of-lt, mul-assoc, suc-mul, zero-add, zero-mul, zero-div, mul-le-mul-right, mul-add-div-right, mul-one, lt-of-le-of-lt}
 use native.Mathlib.Numerals.{add-one}
 use native.Mathlib.Omega.{arith}
 use borrow.Author.Tests.{eqb-true, eqb-false, eq-eqb, ne-eqb}
 use lib.ListN.{length, getD, drop}
 use lib.Dec.{leb, eqb}
-use lib.Bits.{bitAnd, and-le-l}
 use lib.Count.{trailingZeros}
 use lib.Pow.{pow-pos, pow-add, shr-shr, shr-le, shr-lt, split}
 use Rattle.words.specs.Set.{packed, setOf, has, low}
 use Rattle.words.proofs.Packed.{left-cons, left-none}
 use Rattle.words.proofs.Lowest.{low-word, low-words}
 use Rattle.words.proofs.Meaning.{low-lowest, has-none}
-use Rattle.words.proofs.Common.{common, common-length, common-at, common-set}
 use Rattle.rows.proofs.Rowwise.{has-below}
 use Rattle.fit.proofs.Stray.{packed-shr, above-from}
 use Rattle.region.specs.Masks.{nextOf}
@@ -86,11 +84,6 @@ module _ (x from : ℕ) where
         by-next (λ a. eqb (x / 2 ^ from) 0 ≡ eqb a 512) (λ e. eq-eqb _ 0 e)
         (λ h. ne-eqb (x / 2 ^ from) 0 (λ e. omega (arith, e, h)) ∙ sym (ne-eqb (from + low (x / 2 ^ from)) 512 (λ e. omega (arith, low-below h))))
 
--- from the first atom on, the next one is the lowest
-pub next-first : (x : ℕ) → nextOf x 0 ≡ cond (eqb x 0) 512 (low x)
-unfolding nextOf
-next-first x = ap (λ (y : ℕ). cond (eqb y 0) 512 (0 + low y)) (div-one x) ∙ ap (cond (eqb x 0) 512) (zero-add (low x))
-
 -- ---- words of k atoms
 
 pub packed-below : (k : ℕ) (ws : List ℕ) → packed k ws < 2 ^ (length ws * k)
@@ -120,14 +113,14 @@ module _ (k : ℕ) (ws : List ℕ) (from : ℕ) where
     pub reached : from ≤ i * k
     pub rest : packed k ws / 2 ^ from ≡ packed k (drop i ws) * 2 ^ (i * k - from)
 
-  past-none : (i : ℕ) → length ws ≤ i → Past i → 512 ≡ nextOf (packed k ws) from
+  pub past-none : (i : ℕ) → length ws ≤ i → Past i → 512 ≡ nextOf (packed k ws) from
   past-none i h past = next-empty (packed k ws) from (past .rest ∙ ap (λ (n : ℕ). n * 2 ^ (i * k - from)) (left-none k ws i h) ∙ zero-mul _)
 
   module _ (i : ℕ) (h : i < length ws) (fits : getD ws i 0 < 2 ^ k) where
     left : packed k (drop i ws) ≡ packed k (drop (i + 1) ws) * 2 ^ k + getD ws i 0
     left = left-cons k ws i h ∙ ap (λ (n : ℕ). packed k (drop (i + 1) ws) * 2 ^ k + n) (mod-eq-of-lt fits)
 
-    past-next : Past i → getD ws i 0 ≡ 0 → Past (i + 1)
+    pub past-next : Past i → getD ws i 0 ≡ 0 → Past (i + 1)
     past-next past e =
         let p = packed k (drop (i + 1) ws) in
         let empty : p * 2 ^ k + getD ws i 0 ≡ p * 2 ^ k = omega arith in
@@ -137,7 +130,7 @@ module _ (k : ℕ) (ws : List ℕ) (from : ℕ) where
           rest = past .rest ∙ ap (λ (n : ℕ). n * 2 ^ (i * k - from)) (left ∙ empty) ∙ up p k (i * k - from) ∙ ap (λ (n : ℕ). p * 2 ^ n) above;
         }
 
-    past-found : Past i → 0 < getD ws i 0 → i * k + trailingZeros k (getD ws i 0) ≡ nextOf (packed k ws) from
+    pub past-found : Past i → 0 < getD ws i 0 → i * k + trailingZeros k (getD ws i 0) ≡ nextOf (packed k ws) from
     past-found past some =
         let t = trailingZeros k (getD ws i 0) in
         let at : i * k + t ≡ from + (i * k - from + t) = omega (arith, past .reached) in
@@ -151,7 +144,7 @@ module _ (k : ℕ) (ws : List ℕ) (from : ℕ) where
     in-word =
         ap (λ (n : ℕ). packed k ws / 2 ^ n) at ∙ sym (shr-shr (packed k ws) (i * k) u) ∙ ap (λ (n : ℕ). n / 2 ^ u) (packed-shr k ws i)
 
-    start-none : length ws ≤ i → 512 ≡ nextOf (packed k ws) from
+    pub start-none : length ws ≤ i → 512 ≡ nextOf (packed k ws) from
     start-none h = next-empty (packed k ws) from (in-word ∙ ap (λ (n : ℕ). n / 2 ^ u) (left-none k ws i h) ∙ zero-div _)
 
     module _ (below : u < k) (h : i < length ws) (fits : getD ws i 0 < 2 ^ k) where
@@ -162,64 +155,17 @@ module _ (k : ℕ) (ws : List ℕ) (from : ℕ) where
           in-word ∙ ap (λ (n : ℕ). n / 2 ^ u) (left i h fits ∙ ap (λ (n : ℕ). n + getD ws i 0) (sym (up p (k - u) u ∙ ap (λ (n : ℕ). p * 2 ^ n) e)))
           ∙ mul-add-div-right (pow-pos u) (p * 2 ^ (k - u)) (getD ws i 0)
 
-      start-past : getD ws i 0 / 2 ^ u ≡ 0 → Past (i + 1)
+      pub start-past : getD ws i 0 / 2 ^ u ≡ 0 → Past (i + 1)
       start-past e =
           let p = packed k (drop (i + 1) ws) in
           let empty : p * 2 ^ (k - u) + getD ws i 0 / 2 ^ u ≡ p * 2 ^ (k - u) = omega arith in
           let above : k - u ≡ (i + 1) * k - from = omega (arith, next-word i) in
           record { reached = omega (arith, next-word i); rest = cut ∙ empty ∙ ap (λ (n : ℕ). p * 2 ^ n) above }
 
-      start-found : 0 < getD ws i 0 / 2 ^ u → from + trailingZeros k (getD ws i 0 / 2 ^ u) ≡ nextOf (packed k ws) from
+      pub start-found : 0 < getD ws i 0 / 2 ^ u → from + trailingZeros k (getD ws i 0 / 2 ^ u) ≡ nextOf (packed k ws) from
       start-found some =
           let w = getD ws i 0 / 2 ^ u in
           let e : k ≡ k - u + u = omega arith in
           let short : w < 2 ^ (k - u) = shr-lt (k - u) u (subst (λ (n : ℕ). getD ws i 0 < 2 ^ n) e fits) in
           ap (λ (n : ℕ). from + n) (sym (low-word k w some (lt-of-le-of-lt (shr-le (getD ws i 0) u) fits)) ∙ low-word (k - u) w some short ∙ sym (zero-add _))
           ∙ next-in (packed k ws) from (k - u) (packed k (drop (i + 1) ws)) w 0 (cut ∙ sym (mul-one _)) some short
-
--- ---- what two masks have in common
-
-module _ (l r : List ℕ) (wide : length l ≡ 8) (wide′ : length r ≡ 8) (from : ℕ) where
-  abbrev answer : ℕ
-  answer = nextOf (bitAnd (setOf l) (setOf r)) from
-
-  fewer : length l ≤ length r
-  fewer = omega arith
-
-  eight : length (common l r) ≡ 8
-  eight = common-length l r fewer ∙ wide
-
-  told : (a : ℕ) → a ≡ nextOf (setOf (common l r)) from → a ≡ answer
-  told a e = e ∙ ap (λ (x : ℕ). nextOf x from) (common-set 64 l r fewer)
-
-  pub both-none : (i : ℕ) → 8 ≤ i → Past 64 (common l r) from i → 512 ≡ answer
-  both-none i h past = told 512 (past-none 64 (common l r) from i (omega (arith, eight)) past)
-
-  pub both-start-none : (i u : ℕ) → from ≡ i * 64 + u → 8 ≤ i → 512 ≡ answer
-  both-start-none i u at h = told 512 (start-none 64 (common l r) from i u at (omega (arith, eight)))
-
-  module _ (i : ℕ) (h : i < 8) (fits : getD l i 0 < 2 ^ 64) where
-    abbrev word : ℕ
-    word = bitAnd (getD l i 0) (getD r i 0)
-
-    word-is : getD (common l r) i 0 ≡ word
-    word-is = common-at l r i fewer (omega arith)
-
-    inside : i < length (common l r)
-    inside = omega (arith, eight)
-
-    word-fits : getD (common l r) i 0 < 2 ^ 64
-    word-fits = rw word-is (lt-of-le-of-lt (and-le-l (getD l i 0) (getD r i 0)) fits)
-
-    pub both-next : Past 64 (common l r) from i → word ≡ 0 → Past 64 (common l r) from (i + 1)
-    both-next past e = past-next 64 (common l r) from i inside word-fits past (word-is ∙ e)
-
-    pub both-found : Past 64 (common l r) from i → 0 < word → i * 64 + trailingZeros 64 word ≡ answer
-    both-found past some = told _ (rw word-is at (past-found 64 (common l r) from i inside word-fits past (rw word-is some)))
-
-    module _ (u : ℕ) (at : from ≡ i * 64 + u) (below : u < 64) where
-      pub both-start-past : word / 2 ^ u ≡ 0 → Past 64 (common l r) from (i + 1)
-      both-start-past e = start-past 64 (common l r) from i u at below inside word-fits (ap (λ (n : ℕ). n / 2 ^ u) word-is ∙ e)
-
-      pub both-start-found : 0 < word / 2 ^ u → from + trailingZeros 64 (word / 2 ^ u) ≡ answer
-      both-start-found some = told _ (rw word-is at (start-found 64 (common l r) from i u at below inside word-fits (rw word-is some)))

@@ -50,23 +50,22 @@ pub fn mask<'a>(held: &'a [u64], cut: &'a [u64], value: bool) -> &'a [u64]
     if value { held } else { cut }
 }
 
-// The lowest atom from `from` on that two masks of eight words have in common, or 512.
-pub fn next_common<'a>(left: &'a [u64; 8], right: &'a [u64; 8], from: usize) -> usize
-    ensures { λ r. ⌜ r ≡ nextOf (bitAnd (setOf (now (left .entry))) (setOf (now (right .entry)))) from ⌝ }
+// The lowest atom from `from` on in a mask of eight words, or 512.
+pub fn next(mask: &[u64; 8], from: usize) -> usize
+    ensures { λ r. ⌜ r ≡ nextOf (setOf (now (mask .entry))) from ⌝ }
 {
-    let first: &[u64] = left;
-    let second: &[u64] = right;
+    let words: &[u64] = mask;
     let mut i = from / 64;
     if i >= 8 {
         return LIMIT;
     }
-    let rest = (first[i] & second[i]) >> (from % 64);
+    let rest = words[i] >> (from % 64);
     if rest != 0 {
         return from + u64::trailing_zeros(rest) as usize;
     }
     i += 1;
     while i < 8 {
-        let word = first[i] & second[i];
+        let word = words[i];
         if word != 0 {
             return i * 64 + u64::trailing_zeros(word) as usize;
         }
@@ -75,22 +74,20 @@ pub fn next_common<'a>(left: &'a [u64; 8], right: &'a [u64; 8], from: usize) -> 
     LIMIT
 }
 
-// The lowest atom from `from` on in a mask of eight words, or 512.
-pub fn next(mask: &[u64; 8], from: usize) -> usize
-    ensures { λ r. ⌜ r ≡ nextOf (setOf (now (mask .entry))) from ⌝ }
-{
-    next_common(mask, mask, from)
-}
-
 // Whether two masks have an atom in common.
 fn meet<'a>(left: &'a [u64; 8], right: &'a [u64; 8]) -> bool
     ensures { λ r. ⌜ r ≡ not (eqb (bitAnd (setOf (now (left .entry))) (setOf (now (right .entry)))) 0) ⌝ }
 {
-    match words::intersection_count(left, right) {
-        words::Counted::Are(n) => n != 0,
-        words::Counted::Unequal => false,
-        words::Counted::TooWide => false,
+    let first: &[u64] = left;
+    let second: &[u64] = right;
+    let mut i = 0;
+    while i < 8 {
+        if first[i] & second[i] != 0 {
+            return true;
+        }
+        i += 1;
     }
+    false
 }
 
 impl Region {
@@ -125,13 +122,15 @@ impl Region {
         if self.atoms > LIMIT {
             return 10;
         }
-        if next(&self.held, self.atoms) != LIMIT {
+        let held = self.held;
+        if next(&held, self.atoms) != LIMIT {
             return 11;
         }
-        if next(&self.cut, self.atoms) != LIMIT {
+        let cut = self.cut;
+        if next(&cut, self.atoms) != LIMIT {
             return 11;
         }
-        if meet(&self.held, &self.cut) {
+        if meet(&held, &cut) {
             return 12;
         }
         0

@@ -1,4 +1,4 @@
--- What a set has in common with another of at least as many words: the turns of `first_common`, and a mask's words past a row's.
+-- What a set has in common with another of at least as many words: found word by word, and a mask's words past a row's.
 use Prim.Native.Nat.{ℕ, zero, suc, _+_, _*_, _%_, _^_, _≤_, _<_}
 use mathlib.Core.Path.{_≡_, refl, sym, ap, _∙_}
 use mathlib.Core.List.{List, [], _∷_, zipWith}
@@ -10,7 +10,7 @@ use lib.Count.{trailingZeros}
 use Rattle.words.specs.Set.{packed, low}
 use Rattle.words.proofs.Bitwise.{by-and, join-words}
 use Rattle.words.proofs.Packed.{left-none}
-use Rattle.words.proofs.Scan.{From, from-next, first-at}
+use Rattle.words.proofs.Scan.{From, from-next, first-at, first-some}
 
 -- words past the shorter set's have nothing in common with it
 pub and-take : (k : ℕ) (l r : List ℕ) → bitAnd (packed k l) (packed k (take (length l) r)) ≡ bitAnd (packed k l) (packed k r)
@@ -53,6 +53,12 @@ module _ (k : ℕ) (l r : List ℕ) (wide : length l ≤ length r) (i : ℕ) (fr
     pub common-next : bitAnd (getD l i 0) (getD r i 0) ≡ 0 → From k (common l r) (i + 1)
     common-next e = from-next k (common l r) i inside from (common-at l r i wide h ∙ e)
 
+    pub common-some : 0 < bitAnd (getD l i 0) (getD r i 0) → getD l i 0 < 2 ^ k → bitAnd (packed k l) (packed k r) ≡ 0 → ⊥
+    common-some some fits none =
+        let e = common-at l r i wide h in
+        let lt : bitAnd (getD l i 0) (getD r i 0) < 2 ^ k = lt-of-le-of-lt (and-le-l (getD l i 0) (getD r i 0)) fits in
+        first-some k (common l r) i inside from (rw e some) (rw e lt) (common-set k l r wide ∙ none)
+
     pub common-first : 0 < bitAnd (getD l i 0) (getD r i 0) → getD l i 0 < 2 ^ k
         → i * k + trailingZeros k (bitAnd (getD l i 0) (getD r i 0)) ≡ low (bitAnd (packed k l) (packed k r))
     common-first some fits =
@@ -61,9 +67,11 @@ module _ (k : ℕ) (l r : List ℕ) (wide : length l ≤ length r) (i : ℕ) (fr
         ap (λ (w : ℕ). i * k + trailingZeros k w) (sym e)
         ∙ sym (first-at k (common l r) i inside from (rw e some) (rw e lt)) ∙ ap low (common-set k l r wide)
 
+  pub common-empty : length l ≤ i → bitAnd (packed k l) (packed k r) ≡ 0
+  common-empty h =
+      let past : length (common l r) ≤ i = omega (arith, common-length l r wide) in
+      sym (common-set k l r wide) ∙ from ∙ ap (λ (n : ℕ). n * 2 ^ (i * k)) (left-none k (common l r) i past) ∙ zero-mul _
+
   pub common-none : length l ≤ i → 0 ≡ low (bitAnd (packed k l) (packed k r))
   unfolding low trailingZeros
-  common-none h =
-      let past : length (common l r) ≤ i = omega (arith, common-length l r wide) in
-      let none : packed k (common l r) ≡ 0 = from ∙ ap (λ (n : ℕ). n * 2 ^ (i * k)) (left-none k (common l r) i past) ∙ zero-mul _ in
-      ap low (sym none ∙ common-set k l r wide)
+  common-none h = ap low (sym (common-empty h))

@@ -1,83 +1,86 @@
--- `region::meet` meets its contract: sets that share an atom are those whose intersection counts some.
-use Prim.Native.Nat.{ℕ, _/_}
-use mathlib.Core.Path.{_≡_, refl, sym, ap, _∙_}
-use mathlib.Core.List.{List}
-use mathlib.Core.Bool.{Bool, true, false, not}
+-- `region::meet` meets its contract: in the words passed the masks have nothing in common.
+use Prim.Native.Nat.{_-_, _≤_}
+use mathlib.Core.Path.{sym, ap}
+use mathlib.Core.Bool.{not}
+use native.Mathlib.Nat.{mul-one}
 use native.Mathlib.Omega.{arith}
-use borrow.Author.Tests.{eqb-true, eqb-false, eq-eqb, ne-eqb}
-use lib.Arith.{bin-ind}
-use lib.Bits.{bitAnd}
-use lib.Count.{ones, ones-step}
-use lib.Dec.{eqb}
+use borrow.Author.Tests.{eq-eqb, ne-eqb}
 use lib.ListN.{length}
-use Rattle.words.specs.Set.{setOf}
-use Rattle.words.specs.Calls.{intersectionOf}
-use Rattle.words.specs.declared.Counted.{Counted}
-use Rattle.words.specs.declared.Counted.the-variants.{Are, Unequal, TooWide}
+use Rattle.words.proofs.Scan.{From}
+use Rattle.words.proofs.Common.{common, common-next, common-some, common-empty}
 use borrow.Author.Needs.{needs}
 use Rattle.region.proofs.meet.Statement.{statement}
 use Rattle.region.proofs.meet.Tie as tie
 
--- a set without atoms is empty
-ones-none : (x : ℕ) → ones x ≡ 0 → x ≡ 0
-ones-none =
-    bin-ind (λ (x : ℕ). ones x ≡ 0 → x ≡ 0) (λ e. refl)
-    (λ x ih e. let half : x / 2 ≡ 0 = ih (omega (arith, ones-step x)) in omega (arith, ones-step x))
+abbrev Inv-loop : tie.InvT-loop
+Inv-loop left right first second i₀ i = (i ≤ 8) × From 64 (common left right) i
 
-ones-some : (x : ℕ) → eqb (ones x) 0 ≡ eqb x 0
-unfolding ones
-ones-some x = go (eqb x 0) refl
-  where
-    go : (b : Bool) → eqb x 0 ≡ b → eqb (ones x) 0 ≡ b
-    go true e = eq-eqb (ones x) 0 (ap ones (eqb-true x 0 e))
-    go false e = ne-eqb (ones x) 0 (λ z. eqb-false x 0 e (ones-none x z))
+abbrev μ-loop : tie.MeasureT-loop
+μ-loop left right first second i₀ i = 8 - i
 
-abbrev metIn : Counted → Bool
-metIn (Are n) = not (eqb n 0)
-metIn Unequal = false
-metIn TooWide = false
+-- both have eight words
+same : (c : tie.After-second Inv-loop μ-loop) → length (c .before .before .args .left .now) ≤ length (c .before .before .args .right .now)
+same c = omega (arith, c .before .first .given .0, c .second .given .0)
 
-met : (l r : List ℕ) → length l ≡ 8 → length r ≡ 8 → metIn (intersectionOf l r) ≡ not (eqb (bitAnd (setOf l) (setOf r)) 0)
-unfolding intersectionOf
-met l r hl hr = simp (hl, hr) (ap not (ones-some (bitAnd (setOf l) (setOf r))))
+loop-holds : tie.Need-loop-holds Inv-loop μ-loop
+loop-holds c = (omega arith, sym (mul-one _))
 
-intersection-count-requires : tie.Need-intersection-count-requires
-intersection-count-requires c κs = search needs
+mul-if1 : tie.Need-mul-if1 Inv-loop μ-loop
+mul-if1 c = search needs
 
-enum-known-n : tie.Need-enum-known-n
-enum-known-n c = search needs
+shared-slice-read-if1 : tie.Need-shared-slice-read-if1 Inv-loop μ-loop
+shared-slice-read-if1 c = search needs
 
-enum-told : tie.Need-enum-told
-enum-told c = search needs
+mul-if1-2 : tie.Need-mul-if1-2 Inv-loop μ-loop
+mul-if1-2 c = search needs
 
-enum-told-2 : tie.Need-enum-told-2
-enum-told-2 c = search needs
+shared-slice-read-if1-2 : tie.Need-shared-slice-read-if1-2 Inv-loop μ-loop
+shared-slice-read-if1-2 c = search needs
 
-answer : (c : tie.After-intersection-count)
-    → metIn (c .intersection-count .result)
-    ≡ not (eqb (bitAnd (setOf (c .before .before .before .args .left .now)) (setOf (c .before .before .before .args .right .now))) 0)
-answer c =
-    let a = c .before .before .before .args in
-    ap metIn (c .intersection-count .ensures)
-    ∙ met (a .left .now) (a .right .now) (c .before .before .intersection-count-arg .given .0) (c .before .intersection-count-arg2 .given .0)
+returns : tie.Need-returns Inv-loop μ-loop
+returns c =
+    let at = c .before .before .before .before in
+    let second = at .before in
+    let a = second .before .before .args in
+    sym (ap not (ne-eqb _ 0
+    (common-some 64 (a .left .now) (a .right .now) (same second) (at .loop .i) (at .loop .inv .1) (omega (arith, second .before .first .given .0)) (omega arith)
+    (c .before .before .shared-slice-known .given (at .loop .i) .fits))))
 
-returns : tie.Need-returns
-returns c = sym (ap metIn (c .before .n .given .1)) ∙ answer (c .before .before .before)
+add-i : tie.Need-add-i Inv-loop μ-loop
+add-i c = search needs
 
-returns-2 : tie.Need-returns-2
-returns-2 c = sym (ap metIn (c .enum-told .given .1)) ∙ answer (c .before .before)
+loop-less : tie.Need-loop-less Inv-loop μ-loop
+loop-less c = search needs
 
-returns-3 : tie.Need-returns-3
-returns-3 c = sym (ap metIn (c .enum-told2 .given .1)) ∙ answer (c .before .before)
+loop-again : tie.Need-loop-again Inv-loop μ-loop
+loop-again c =
+    let at = c .before .before .before .before in
+    let second = at .before in
+    let a = second .before .before .args in (
+      omega arith,
+      common-next 64 (a .left .now) (a .right .now) (same second) (at .loop .i) (at .loop .inv .1) (omega (arith, second .before .first .given .0)) (c .if1 .left),
+    )
+
+returns-2 : tie.Need-returns-2 Inv-loop μ-loop
+returns-2 c =
+    let at = c .before in
+    let second = at .before in
+    let a = second .before .before .args in
+    sym (ap not (eq-eqb _ 0 (common-empty 64 (a .left .now) (a .right .now) (same second) (at .loop .i) (at .loop .inv .1) (omega (arith, second .before .first .given .0)))))
 
 pub meet-spec : {M : Type 1} → statement M
 meet-spec =
     tie.close
     (tie.spec
-    intersection-count-requires
-    enum-known-n
-    enum-told
-    enum-told-2
+    Inv-loop
+    μ-loop
+    loop-holds
+    mul-if1
+    shared-slice-read-if1
+    mul-if1-2
+    shared-slice-read-if1-2
     returns
-    returns-2
-    returns-3)
+    add-i
+    loop-less
+    loop-again
+    returns-2)

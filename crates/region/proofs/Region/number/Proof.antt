@@ -12,25 +12,25 @@ use borrow.Author.Needs.{needs}
 use Rattle.region.proofs.Region.number.Statement.{statement}
 use Rattle.region.proofs.Region.number.Tie as tie
 
-held-words : (c : tie.Start) → length (c .args .t1 .held) ≡ 8
-held-words c = sym (length-map (c .args .t1 .held) (λ v. v)) ∙ c .good .0 .1 .1 .1 .0 .1 .0 .1
+held-words : (c : tie.Start) → length (c .args .self .held) ≡ 8
+held-words c = sym (length-map (c .args .self .held) (λ v. v)) ∙ c .good .0 .1 .1 .1 .0 .1 .0 .1
 
-cut-words : (c : tie.Start) → length (c .args .t1 .cut) ≡ 8
-cut-words c = sym (length-map (c .args .t1 .cut) (λ v. v)) ∙ c .good .0 .1 .1 .1 .1 .0 .1 .0 .1
+cut-words : (c : tie.Start) → length (c .args .self .cut) ≡ 8
+cut-words c = sym (length-map (c .args .self .cut) (λ v. v)) ∙ c .good .0 .1 .1 .1 .1 .0 .1 .0 .1
 
 held-strays : (c : tie.After-next)
-    → leb (2 ^ (c .before .before .before .before .args .t1 .atoms)) (setOf (c .before .before .before .before .args .t1 .held)) ≡ not (eqb (c .next .result) 512)
+    → leb (2 ^ (c .before .before .before .before .before .args .self .atoms)) (setOf (c .before .before .before .before .before .args .self .held)) ≡ not (eqb (c .next .result) 512)
 held-strays c =
-    let start = c .before .before .before .before in
-    let r = start .args .t1 in
+    let start = c .before .before .before .before .before in
+    let r = start .args .self in
     above-next (r .held) (held-words start) (r .atoms) ∙ ap (λ n. not (eqb n 512)) (sym (c .next .ensures))
 
 cut-strays : (c : tie.After-next2)
-    → leb (2 ^ (c .before .before .before .before .before .before .before .before .args .t1 .atoms)) (setOf (c .before .before .before .before .before .before .before .before .args .t1 .cut))
+    → leb (2 ^ (c .before .before .before .before .before .before .before .before .before .args .self .atoms)) (setOf (c .before .before .before .before .before .before .before .before .before .args .self .cut))
     ≡ not (eqb (c .next2 .result) 512)
 cut-strays c =
-    let start = c .before .before .before .before .before .before .before .before in
-    let r = start .args .t1 in
+    let start = c .before .before .before .before .before .before .before .before .before in
+    let r = start .args .self in
     above-next (r .cut) (cut-words start) (r .atoms) ∙ ap (λ n. not (eqb n 512)) (sym (c .next2 .ensures))
 
 returns : tie.Need-returns
@@ -61,10 +61,10 @@ meet-requires : tie.Need-meet-requires
 meet-requires c κs = search needs
 
 answer : (c : tie.After-meet)
-    → cond (c .meet .result) 12 0 ≡ regionUnfit (c .before .before .before .before .before .before .before .before .before .before .before .before .before .args .t1)
+    → cond (c .meet .result) 12 0 ≡ regionUnfit (c .before .before .before .before .before .before .before .before .before .before .before .before .before .args .self)
 unfolding regionUnfit
 answer c =
-    let second = c .before .before .before .before in
+    let second = c .before .before .before in
     let first = second .before .before .before .before in
     let in-held = held-strays (first .before) ∙ ap not (eq-eqb _ _ (first .if2 .left)) in
     let in-cut = cut-strays (second .before) ∙ ap not (eq-eqb _ _ (second .if3 .left)) in
