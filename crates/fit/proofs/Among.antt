@@ -1,8 +1,7 @@
 -- Whether one of the first m has what is looked for, asked one after another: `any` of m is that of those before, or the last one's.
-use Prim.Native.Nat.{ℕ, zero, suc, _+_, _<_}
+use Prim.Native.Nat.{ℕ, zero, suc, _<_}
 use mathlib.Core.Path.{_≡_, refl, sym, ap, ap₂, _∙_}
 use mathlib.Core.Bool.{Bool, true, false, _||_, true≢false}
-use native.Mathlib.Numerals.{add-one}
 use native.Mathlib.Omega.{arith}
 use borrow.Author.Tests.{eqb-true, eqb-false}
 use lib.Arith.{lt-of-le-ne}
@@ -17,9 +16,6 @@ or-right true b e = refl
 or-right false b e = e
 
 module _ (any one : ℕ → Bool) (start : any 0 ≡ false) (more : (m : ℕ) → any (suc m) ≡ (any m || one m)) where
-  pub any-next : (r : ℕ) → any r ≡ false → one r ≡ false → any (r + 1) ≡ false
-  any-next r before this = ap any (add-one r) ∙ more r ∙ ap₂ _||_ before this
-
   pub any-found : (m r : ℕ) → r < m → one r ≡ true → any m ≡ true
   any-found zero r h this = let z : ⊥ = omega arith in absurd z
   any-found (suc m) r h this = more m ∙ go (eqb r m) refl (λ l. any-found m r l this)

@@ -1,14 +1,15 @@
 -- Whether a basis names rows, asked one entry after another.
 use Prim.Native.Nat.{ℕ, suc, _+_, _≤_, _<_, min}
-use mathlib.Core.Path.{_≡_, refl, ap}
+use mathlib.Core.Path.{_≡_, refl, ap, _∙_}
 use mathlib.Core.List.{List}
-use mathlib.Core.Bool.{Bool, true, false, _||_}
+use mathlib.Core.Bool.{Bool, false, _||_}
+use native.Mathlib.Numerals.{add-one}
 use native.Mathlib.Omega.{arith}
 use borrow.Author.Tests.{leb-false, lt-leb}
 use lib.ListN.{length, getD}
 use lib.Dec.{leb}
 use Rattle.fit.specs.Rows.{misnames}
-use Rattle.fit.proofs.Among.{any-next, any-found, any-each, any-none}
+use Rattle.fit.proofs.Among.{any-each, any-none}
 
 module _ (m : ℕ) (basis : List ℕ) where
   abbrev misnamesAt : ℕ → Bool
@@ -22,11 +23,8 @@ module _ (m : ℕ) (basis : List ℕ) where
   unfolding misnames
   misnames-more rank = refl
 
-  pub misnames-next : (j : ℕ) → misnames m basis j ≡ false → misnamesAt j ≡ false → misnames m basis (j + 1) ≡ false
-  misnames-next = any-next (misnames m basis) misnamesAt misnames-start misnames-more
-
-  pub misnames-found : (rank j : ℕ) → j < rank → misnamesAt j ≡ true → misnames m basis rank ≡ true
-  misnames-found = any-found (misnames m basis) misnamesAt misnames-start misnames-more
+  pub misnames-step : (j : ℕ) → misnames m basis (j + 1) ≡ (misnames m basis j || misnamesAt j)
+  misnames-step j = ap (misnames m basis) (add-one j) ∙ misnames-more j
 
   pub names-each : (rank : ℕ) → misnames m basis rank ≡ false → (j : ℕ) → j < rank → getD basis j 0 < m
   names-each rank none j h = leb-false m _ (any-each (misnames m basis) misnamesAt misnames-start misnames-more rank none j h)

@@ -46,19 +46,18 @@ pub fn least(a: usize, b: usize) -> usize
     if a <= b { a } else { b }
 }
 
-// Whether one of the first `rank` entries of a basis, as far as it has them, names none of m rows.
+// Whether one of the first `rank` entries of a basis, as far as it has them, names none of m rows. No early exit here either.
 pub fn any_misnames(basis: &[usize], m: usize, rank: usize) -> bool
     ensures { λ r. ⌜ r ≡ misnames m (now (basis .entry)) (min rank (length (now (basis .entry)))) ⌝ }
 {
     let entries = least(rank, basis.len());
+    let mut misnamed = false;
     let mut j = 0;
     while j < entries {
-        if basis[j] >= m {
-            return true;
-        }
+        misnamed = misnamed | (basis[j] >= m);
         j += 1;
     }
-    false
+    misnamed
 }
 
 // The number under which m lent rows over n atoms and their constants are refused, or 0.
