@@ -1,14 +1,16 @@
-/* Preparation and probe as a C programmer would write them, for fit input: nothing is checked. */
+/* Preparation and probe as a C programmer would write them: plain_* for fit input, where nothing is checked, and checked_* with the
+ * library's checks in front, in its order and under its numbers. */
+#include <stdbool.h>
 #include <stddef.h>
 #include <stdint.h>
 #include <string.h>
 
 typedef struct {
-    size_t rank, additions, units, incidences, refuted;
+    size_t number, rank, additions, units, incidences, refuted;
 } plain_prepared;
 
 typedef struct {
-    size_t yes, undecided, kept;
+    size_t number, yes, undecided, kept;
 } plain_probed;
 
 /* The first word from i on that is not 0, or width. */
@@ -97,4 +99,62 @@ plain_probed plain_probe(size_t n, size_t rank, const uint64_t *rows, const uint
     }
     told.yes = 1;
     return told;
+}
+
+enum { LIMIT = 512, MASK_WORDS = 8 };
+
+static size_t least(size_t a, size_t b) { return a < b ? a : b; }
+
+/* Only the last word of a row can have a bit at n or above. */
+static bool row_strays(const uint64_t *row, size_t n) { return n % 64 != 0 && row[n / 64] >> (n % 64) != 0; }
+
+static bool any_strays(size_t n, size_t m, const uint64_t *rows, const uint8_t *constants) {
+    size_t width = (n + 63) / 64;
+    for (size_t t = 0; t < m; t++)
+        if (constants[t] > 1 || row_strays(rows + t * width, n)) return true;
+    return false;
+}
+
+static bool mask_strays(const uint64_t *mask, size_t n) {
+    return row_strays(mask, n) || lowest_word(mask, (n + 63) / 64, MASK_WORDS) < MASK_WORDS;
+}
+
+static bool masks_clash(const uint64_t *held, const uint64_t *cut) {
+    for (size_t i = 0; i < MASK_WORDS; i++)
+        if (held[i] & cut[i]) return true;
+    return false;
+}
+
+static bool any_misnames(const size_t *basis, size_t rank, size_t m) {
+    for (size_t j = 0; j < rank; j++)
+        if (basis[j] >= m) return true;
+    return false;
+}
+
+plain_prepared checked_prepare(size_t n, size_t m, uint64_t *restrict rows, size_t rows_length, uint8_t *restrict constants,
+                               size_t constants_length, size_t *restrict basis, size_t basis_length, size_t *restrict unit_atoms,
+                               size_t unit_atoms_length, uint8_t *restrict unit_values, size_t unit_values_length,
+                               uint64_t *restrict index, size_t index_length) {
+    if (n > LIMIT || m > LIMIT) return (plain_prepared){.number = 10};
+    size_t places = least(m, n);
+    if (rows_length < m * ((n + 63) / 64) || constants_length < m || basis_length < places || unit_atoms_length < places ||
+        unit_values_length < places || index_length < n * ((places + 127) / 128 * 2))
+        return (plain_prepared){.number = 9};
+    if (any_strays(n, m, rows, constants)) return (plain_prepared){.number = 11};
+    return plain_prepare(n, m, rows, constants, basis, unit_atoms, unit_values, index);
+}
+
+/* The region is its number of atoms and two masks of eight words. */
+plain_probed checked_probe(size_t n, size_t m, size_t rank, const uint64_t *rows, size_t rows_length, const uint8_t *constants,
+                           size_t constants_length, const size_t *basis, size_t basis_length, size_t atoms, const uint64_t *held,
+                           const uint64_t *cut) {
+    if (n > LIMIT || m > LIMIT || atoms > LIMIT) return (plain_probed){.number = 10};
+    size_t places = least(m, n);
+    if (rank > places) return (plain_probed){.number = 13};
+    if (rows_length < m * ((n + 63) / 64) || constants_length < m || basis_length < places) return (plain_probed){.number = 9};
+    if (any_strays(n, m, rows, constants) || mask_strays(held, atoms) || mask_strays(cut, atoms)) return (plain_probed){.number = 11};
+    if (masks_clash(held, cut)) return (plain_probed){.number = 12};
+    if (any_misnames(basis, rank, m)) return (plain_probed){.number = 13};
+    if (atoms != n) return (plain_probed){.number = 15};
+    return plain_probe(n, rank, rows, constants, basis, held, cut);
 }

@@ -1,4 +1,5 @@
-//! Times the original Rust, the compiled library and plain C on the same inputs, in turn in one process, and writes tables in Markdown.
+//! Times the original Rust, the compiled library and C, plain and with the library's checks, on the same inputs, in turn in one process,
+//! and writes tables in Markdown.
 //!
 //! A time is that of one call, the best of many batches. What a call changes is restored between batches, outside of the time. Each pair's
 //! results are compared once before they are timed.
@@ -16,9 +17,10 @@ use zetesis_algebra::region::Region;
 use zetesis_ferraris::regions::NarrowingScratch;
 use zetesis_ferraris::regions::arithmetic::{self, ParitySystem};
 
-/// The best time of one call of each side, in nanoseconds: batches in turn, for a second and a half at least.
-fn best(calls: usize, sides: &mut [&mut dyn Side]) -> Vec<f64> {
-    let mut times = vec![Duration::MAX; sides.len()];
+/// The best time of one call of each side, in nanoseconds: batches in turn, for a second and a half at least. Sides that share code are not
+/// neighbours: the second would find its branches predicted.
+fn best<const N: usize>(calls: usize, mut sides: [&mut dyn Side; N]) -> [f64; N] {
+    let mut times = [Duration::MAX; N];
     let begin = Instant::now();
     for round in 0.. {
         if round >= 12 && begin.elapsed() > Duration::from_millis(1500) {
@@ -31,7 +33,7 @@ fn best(calls: usize, sides: &mut [&mut dyn Side]) -> Vec<f64> {
             *time = start.elapsed().min(*time);
         }
     }
-    times.iter().map(|time| time.as_nanos() as f64 / calls as f64).collect()
+    times.map(|time| time.as_nanos() as f64 / calls as f64)
 }
 
 /// Keeps a result from being optimised away.
@@ -47,16 +49,28 @@ fn shown(time: f64) -> String {
     }
 }
 
-/// A row: the Rust, ours, and then the others.
-fn line(name: &str, times: &[f64]) {
-    let ratio = |other: &f64| format!("{:.2}", times[1] / other);
-    let plain = times.get(2).map_or(" | ".into(), |plain| format!("{} | {}", shown(*plain), ratio(plain)));
-    let m4ri = times.get(3).map_or(String::new(), |m4ri| shown(*m4ri));
-    println!("| {name} | {} | {} | {} | {plain} | {m4ri} |", shown(times[0]), shown(times[1]), ratio(&times[0]));
+/// The times of a row, in nanoseconds; the last three are of sides that do not have every call.
+#[derive(Default)]
+struct Times {
+    rust: f64,
+    ours: f64,
+    plain: Option<f64>,
+    checking: Option<f64>,
+    m4ri: Option<f64>,
+}
+
+fn line(name: &str, times: Times) {
+    let time = |side: Option<f64>| side.map_or(String::new(), shown);
+    let ratio = |side: Option<f64>| side.map_or(String::new(), |side| format!("{:.2}", times.ours / side));
+    let Times { plain, checking, m4ri, .. } = times;
+    let (rust, ours) = (Some(times.rust), Some(times.ours));
+    let cells = [time(rust), time(ours), ratio(rust), time(plain), ratio(plain), time(checking), ratio(checking), time(m4ri)];
+    println!("| {name} | {} |", cells.join(" | "));
 }
 
 fn head(title: &str) {
-    println!("\n{title}\n\n| what | Rust | ours | ours/Rust | plain C | ours/plain C | M4RI |\n|---|---|---|---|---|---|---|");
+    let columns = ["what", "Rust", "ours", "ours/Rust", "plain C", "ours/plain C", "checking C", "ours/checking C", "M4RI"];
+    println!("\n{title}\n\n| {} |\n|{}", columns.join(" | "), "---|".repeat(columns.len()));
 }
 
 fn hulls(k: usize) {
@@ -78,36 +92,46 @@ fn hulls(k: usize) {
     }
     let mut rust = || tables.iter().for_each(|table| spend(arithmetic::proposed(k, black_box(table))));
     let mut mine = || tables.iter().for_each(|table| spend(ours(black_box(table))));
-    line(&format!("propose, k = {k}"), &best(tables.len(), &mut [&mut rust, &mut mine]));
+    let [rust, ours] = best(tables.len(), [&mut rust, &mut mine]);
+    line(&format!("propose, k = {k}"), Times { rust, ours, ..Default::default() });
 }
 
 fn prepares(name: &str, input: &Input, calls: usize) {
     let mut rust = RustPrepare::new(input, calls);
-    let (mut ours, mut plain) = (FlatPrepare::new(input, calls, false), FlatPrepare::new(input, calls, true));
-    let mut sides: Vec<&mut dyn Side> = vec![&mut rust, &mut ours, &mut plain];
-    sides.iter_mut().for_each(|side| {
+    let [mut ours, mut plain, mut checking] = [prepare, prepare_plainly, prepare_checking].map(|call| FlatPrepare::new(input, calls, call));
+    let sides: [&mut dyn Side; 4] = [&mut rust, &mut ours, &mut plain, &mut checking];
+    sides.into_iter().for_each(|side| {
         side.restore();
         side.run();
     });
     let [rank, additions, units, incidences] = rust.made[0].counts().map(|count| count as usize);
     let told = ours.told;
     assert_eq!((told.system.rank, told.additions, told.units, told.incidences), (rank, additions, units, incidences));
-    assert_eq!(told, plain.told);
+    assert_eq!((told, told), (plain.told, checking.told));
     let words: Vec<u64> = rust.made[0].rows().iter().flat_map(|(words, _)| words[..input.width()].to_vec()).collect();
-    assert!(ours.left().rows == words && plain.left().rows == words, "rows differ");
+    assert!(ours.left().rows == words, "rows differ");
     assert!(ours.left().basis[..rank] == *rust.made[0].basis(), "bases differ");
     assert!(rust.made[0].rows().iter().zip(&ours.left().constants).all(|((_, odd), byte)| u8::from(*odd) == *byte), "constants differ");
     assert!(ours.left().index[..rust.made[0].index().len()] == *rust.made[0].index(), "indexes differ");
-    assert!(ours.left().index == plain.left().index && ours.left().basis == plain.left().basis, "plain C differs");
-    let mut sides: Vec<&mut dyn Side> = vec![&mut rust, &mut ours, &mut plain];
+    assert!(ours.left() == plain.left(), "plain C differs");
+    assert!(ours.left() == checking.left(), "checking C differs");
     #[cfg(m4ri)]
     let mut other = Echelonize::new(input, calls);
-    #[cfg(m4ri)]
-    sides.push(&mut other);
-    let times = best(calls, &mut sides);
+    let [rust, plain, ours, checking, m4ri @ ..] = best(
+        calls,
+        [
+            &mut rust,
+            &mut plain,
+            &mut ours,
+            &mut checking,
+            #[cfg(m4ri)]
+            &mut other,
+        ],
+    );
     #[cfg(m4ri)]
     assert_eq!(other.rank, rank);
-    line(&format!("{name} ({additions} additions)"), &times);
+    let times = Times { rust, ours, plain: Some(plain), checking: Some(checking), m4ri: m4ri.first().copied() };
+    line(&format!("{name} ({additions} additions)"), times);
 }
 
 /// What both sides lend: prepared once.
@@ -138,7 +162,8 @@ fn inspects(name: &str, input: &Input, region: &raw::Region, known: Option<&raw:
     assert!(initialized == told.known.initialized && told.known.held[..held.len()] == *held, "knowledge differs");
     assert!(told.known.cut[..cut.len()] == *cut, "knowledge differs");
     let touched = rust_system.touched(&rust_region(region), known.map(rust_region).as_ref()).len();
-    line(&format!("{name} ({touched} of {} rows touched)", system.rank), &best(calls, &mut [&mut rust, &mut ours]));
+    let [rust, ours] = best(calls, [&mut rust, &mut ours]);
+    line(&format!("{name} ({touched} of {} rows touched)", system.rank), Times { rust, ours, ..Default::default() });
 }
 
 fn probes(name: &str, input: &Input, region: &raw::Region, calls: usize) {
@@ -146,11 +171,44 @@ fn probes(name: &str, input: &Input, region: &raw::Region, calls: usize) {
     let (lent, rust_region) = (Lent { system, flat: &flat }, rust_region(region));
     let said = our_probe(&lent, region);
     assert_eq!(said.yes, rust_probe(&rust_system, &rust_region));
-    assert_eq!(PlainProbed { yes: said.yes.into(), undecided: said.undecided, kept: said.kept }, probe_plainly(&lent, region));
+    assert_eq!(PlainProbed::from(said), probe_plainly(&lent, region));
+    assert_eq!(PlainProbed::from(said), probe_checking(&lent, region));
     let mut rust = || (0..calls).for_each(|_| spend(rust_probe(&rust_system, black_box(&rust_region))));
     let mut ours = || (0..calls).for_each(|_| spend(our_probe(&lent, black_box(region))));
     let mut plain = || (0..calls).for_each(|_| spend(probe_plainly(&lent, black_box(region))));
-    line(&format!("{name} (u {}, k {})", said.undecided, said.kept), &best(calls, &mut [&mut rust, &mut ours, &mut plain]));
+    let mut checking = || (0..calls).for_each(|_| spend(probe_checking(&lent, black_box(region))));
+    let [rust, plain, ours, checking] = best(calls, [&mut rust, &mut plain, &mut ours, &mut checking]);
+    let times = Times { rust, ours, plain: Some(plain), checking: Some(checking), m4ri: None };
+    line(&format!("{name} (u {}, k {})", said.undecided, said.kept), times);
+}
+
+/// Unfit input is refused under the same number by ours and by the C that checks.
+fn refusals() {
+    let input = system(8, 6, None);
+    let (_, flat, system) = prepared(&input);
+    let open = input.settled(0..0);
+    let probe = |flat: &Flat, region: &raw::Region, number: usize| {
+        let (lent, refused) = (Lent { system, flat }, PlainProbed::from(raw::Probed { number, ..Default::default() }));
+        assert_eq!(PlainProbed::from(our_probe(&lent, region)), refused);
+        assert_eq!(probe_checking(&lent, region), refused);
+    };
+    let mut unnamed = flat.clone();
+    unnamed.basis[0] = system.rows;
+    probe(&unnamed, &open, 13);
+    let mut clash = open;
+    (clash.held[0], clash.cut[0]) = (1, 1);
+    probe(&flat, &clash, 12);
+    let mut above = open;
+    above.cut[7] = 1;
+    probe(&flat, &above, 11);
+    let mut stray = flat.clone();
+    stray.rows[0] |= 1 << input.atoms;
+    probe(&stray, &open, 11);
+    for call in [prepare, prepare_checking] {
+        let mut left = stray.clone();
+        assert_eq!(call(&input, &mut left), raw::Prepared { number: 11, ..Default::default() });
+        assert!(left == stray, "a refused call wrote");
+    }
 }
 
 /// The lines of a file by the Rust's calls, the probes without the driver's k.
@@ -198,12 +256,13 @@ fn files(name: &str, weights: [usize; 3]) {
     let mut ours = || spend(unsafe { raw::worzubil_answer_file(bytes.as_ptr(), bytes.len(), out.as_mut_ptr(), out.len()) });
     let mut bare = || spend(rust_lines(&bytes));
     let mut driver = || spend(oracle::file::answer(&bytes, false));
-    let times = best(1, &mut [&mut bare, &mut ours, &mut driver]);
-    line(&format!("{name}, {calls} calls"), &times[..2]);
-    line(&format!("{name}, the driver with its own k"), &[times[2], times[1]]);
+    let [rust, ours, driver] = best(1, [&mut bare, &mut ours, &mut driver]);
+    line(&format!("{name}, {calls} calls"), Times { rust, ours, ..Default::default() });
+    line(&format!("{name}, the driver with its own k"), Times { rust: driver, ours, ..Default::default() });
 }
 
 fn main() {
+    refusals();
     head("### The calls");
     hulls(3);
     hulls(8);

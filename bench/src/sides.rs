@@ -1,4 +1,5 @@
-//! The same work by the Rust, by the library and by plain C, as batches of calls. What a call changes is restored before a batch.
+//! The same work by the Rust, by the library and by C, plain and with the library's checks, as batches of calls. What a call changes is
+//! restored before a batch.
 
 use std::hint::black_box;
 
@@ -24,7 +25,7 @@ impl<F: FnMut()> Side for F {
 }
 
 /// The buffers of a preparation.
-#[derive(Clone)]
+#[derive(Clone, PartialEq)]
 pub struct Flat {
     pub rows: Vec<u64>,
     pub constants: Vec<u8>,
@@ -55,6 +56,7 @@ impl Flat {
 
 #[repr(C)]
 pub struct PlainPrepared {
+    pub number: usize,
     pub rank: usize,
     pub additions: usize,
     pub units: usize,
@@ -65,9 +67,16 @@ pub struct PlainPrepared {
 #[repr(C)]
 #[derive(Debug, PartialEq)]
 pub struct PlainProbed {
+    pub number: usize,
     pub yes: usize,
     pub undecided: usize,
     pub kept: usize,
+}
+
+impl From<raw::Probed> for PlainProbed {
+    fn from(said: raw::Probed) -> Self {
+        Self { number: said.number, yes: said.yes.into(), undecided: said.undecided, kept: said.kept }
+    }
 }
 
 unsafe extern "C" {
@@ -81,6 +90,22 @@ unsafe extern "C" {
         unit_values: *mut u8,
         index: *mut u64,
     ) -> PlainPrepared;
+    fn checked_prepare(
+        n: usize,
+        m: usize,
+        rows: *mut u64,
+        rows_length: usize,
+        constants: *mut u8,
+        constants_length: usize,
+        basis: *mut usize,
+        basis_length: usize,
+        unit_atoms: *mut usize,
+        unit_atoms_length: usize,
+        unit_values: *mut u8,
+        unit_values_length: usize,
+        index: *mut u64,
+        index_length: usize,
+    ) -> PlainPrepared;
     fn plain_probe(
         n: usize,
         rank: usize,
@@ -90,19 +115,33 @@ unsafe extern "C" {
         held: *const u64,
         cut: *const u64,
     ) -> PlainProbed;
+    fn checked_probe(
+        n: usize,
+        m: usize,
+        rank: usize,
+        rows: *const u64,
+        rows_length: usize,
+        constants: *const u8,
+        constants_length: usize,
+        basis: *const usize,
+        basis_length: usize,
+        atoms: usize,
+        held: *const u64,
+        cut: *const u64,
+    ) -> PlainProbed;
 }
 
-/// Preparation over lent buffers, by the library or by plain C.
+/// Preparation over lent buffers, by the library or by C.
 pub struct FlatPrepare<'a> {
     input: &'a Input,
     pool: Vec<Flat>,
-    plain: bool,
+    call: fn(&Input, &mut Flat) -> raw::Prepared,
     pub told: raw::Prepared,
 }
 
 impl<'a> FlatPrepare<'a> {
-    pub fn new(input: &'a Input, calls: usize, plain: bool) -> Self {
-        Self { input, pool: vec![Flat::of(input); calls], plain, told: raw::Prepared::default() }
+    pub fn new(input: &'a Input, calls: usize, call: fn(&Input, &mut Flat) -> raw::Prepared) -> Self {
+        Self { input, pool: vec![Flat::of(input); calls], call, told: raw::Prepared::default() }
     }
 
     pub fn left(&self) -> &Flat {
@@ -117,7 +156,7 @@ impl Side for FlatPrepare<'_> {
 
     fn run(&mut self) {
         for flat in &mut self.pool {
-            self.told = if self.plain { prepare_plainly(self.input, flat) } else { prepare(self.input, flat) };
+            self.told = (self.call)(self.input, flat);
         }
     }
 }
@@ -143,12 +182,20 @@ pub fn prepare(input: &Input, flat: &mut Flat) -> raw::Prepared {
     }
 }
 
-fn prepare_plainly(input: &Input, flat: &mut Flat) -> raw::Prepared {
-    let (atoms, rows) = (input.atoms, input.count());
-    let told = unsafe {
+/// What C tells, as the library tells it.
+fn told(input: &Input, told: PlainPrepared) -> raw::Prepared {
+    if told.number != 0 {
+        return raw::Prepared { number: told.number, ..Default::default() };
+    }
+    let system = raw::System { atoms: input.atoms, rows: input.count(), rank: told.rank, refuted: told.refuted != 0 };
+    raw::Prepared { number: 0, system, additions: told.additions, units: told.units, incidences: told.incidences }
+}
+
+pub fn prepare_plainly(input: &Input, flat: &mut Flat) -> raw::Prepared {
+    told(input, unsafe {
         plain_prepare(
-            atoms,
-            rows,
+            input.atoms,
+            input.count(),
             flat.rows.as_mut_ptr(),
             flat.constants.as_mut_ptr(),
             flat.basis.as_mut_ptr(),
@@ -156,9 +203,28 @@ fn prepare_plainly(input: &Input, flat: &mut Flat) -> raw::Prepared {
             flat.unit_values.as_mut_ptr(),
             flat.index.as_mut_ptr(),
         )
-    };
-    let system = raw::System { atoms, rows, rank: told.rank, refuted: told.refuted != 0 };
-    raw::Prepared { number: 0, system, additions: told.additions, units: told.units, incidences: told.incidences }
+    })
+}
+
+pub fn prepare_checking(input: &Input, flat: &mut Flat) -> raw::Prepared {
+    told(input, unsafe {
+        checked_prepare(
+            input.atoms,
+            input.count(),
+            flat.rows.as_mut_ptr(),
+            flat.rows.len(),
+            flat.constants.as_mut_ptr(),
+            flat.constants.len(),
+            flat.basis.as_mut_ptr(),
+            flat.basis.len(),
+            flat.unit_atoms.as_mut_ptr(),
+            flat.unit_atoms.len(),
+            flat.unit_values.as_mut_ptr(),
+            flat.unit_values.len(),
+            flat.index.as_mut_ptr(),
+            flat.index.len(),
+        )
+    })
 }
 
 /// Preparation by the Rust; its rows are handed over in the width that it has, and its own vectors are allocated in the time.
@@ -354,4 +420,24 @@ pub fn probe_plainly(lent: &Lent, region: &raw::Region) -> PlainProbed {
     let Lent { system, flat } = lent;
     let (held, cut) = (region.held.as_ptr(), region.cut.as_ptr());
     unsafe { plain_probe(system.atoms, system.rank, flat.rows.as_ptr(), flat.constants.as_ptr(), flat.basis.as_ptr(), held, cut) }
+}
+
+pub fn probe_checking(lent: &Lent, region: &raw::Region) -> PlainProbed {
+    let Lent { system, flat } = lent;
+    unsafe {
+        checked_probe(
+            system.atoms,
+            system.rows,
+            system.rank,
+            flat.rows.as_ptr(),
+            flat.rows.len(),
+            flat.constants.as_ptr(),
+            flat.constants.len(),
+            flat.basis.as_ptr(),
+            flat.basis.len(),
+            region.atoms,
+            region.held.as_ptr(),
+            region.cut.as_ptr(),
+        )
+    }
 }
