@@ -55,7 +55,9 @@ impl Tally {
         }
         let missed: Vec<usize> = (1..=18).filter(|number| !self.refused.contains_key(number)).collect();
         let bounds = EDGES.iter().map(|edge| format!("{edge:?}")).chain(OFFERS.iter().map(|edge| format!("prepare {edge:?}")));
-        bounds.for_each(|name| drop(self.edges.entry(name).or_default()));
+        for name in bounds {
+            self.edges.entry(name).or_default();
+        }
         let one_sided: Vec<_> = self.edges.iter().filter(|(_, sides)| sides.contains(&0)).map(|(name, _)| name).collect();
         let whole = !long || missed.is_empty() && one_sided.is_empty();
         if !whole {
