@@ -51,15 +51,6 @@ module _ (w t r : ℕ) (h : r < t) where
       constant = rw constant-kept (c .constant);
     }
 
--- ---- and those past it on the words after it
-
-pub row-past : (w t r : ℕ) → t < r → (ws ws′ : List ℕ) → drop (t * w + w) ws′ ≡ drop (t * w + w) ws → row w ws′ r ≡ row w ws r
-row-past w t r h ws ws′ after =
-    let d = r * w - (t * w + w) in
-    let e : t * w + w + d ≡ r * w = omega (arith, earlier w r t h) in
-    let split : (l : List ℕ) → drop d (drop (t * w + w) l) ≡ drop (r * w) l = λ l. drop-drop d (t * w + w) l ∙ ap (λ (n : ℕ). drop n l) e in
-    ap (take w) (sym (split ws′) ∙ ap (drop d) after ∙ split ws)
-
 pub rows-kept : (n w t s : ℕ) (ws cs ws′ cs′ : List ℕ) → s ≤ t → OnlyRow w t ws cs ws′ cs′ → rowsTo n w ws′ cs′ s ≡ rowsTo n w ws cs s
 unfolding rowsTo
 rows-kept n w t zero ws cs ws′ cs′ h only = refl

@@ -17,6 +17,7 @@ use Rattle.words.specs.Set.{setOf, odd}
 use Rattle.words.proofs.Common.{common, common-length, common-at, common-set}
 use Rattle.words.proofs.Counts.{ones-xor, shared-cons, shared-none}
 use Rattle.rows.specs.Row.{overlap}
+use Rattle.rows.specs.Decisions.{Decisions}
 use Rattle.rows.specs.Flat.{widthOf, row, rowAt, atomsOf}
 use Rattle.rows.proofs.Digits.{atoms-overlap}
 use Rattle.rows.proofs.Places.{row-length}
@@ -26,7 +27,7 @@ use Rattle.echelon.proofs.Replaced.{put-row, put-only, row-kept, constant-kept,
 use Rattle.inspect.specs.Steps.{Legible}
 use Rattle.inspect.proofs.Readings.{atoms-and}
 use Rattle.probe.specs.Elimination.{substituted}
-use Rattle.probe.specs.Steps.{Masked, Opened}
+use Rattle.probe.specs.Steps.{Masked, openOf, flippedOf, Opened}
 
 -- ---- one row
 
@@ -37,6 +38,7 @@ pub record Opening (words held free left₀ left : List ℕ) (sum i : ℕ) : Typ
   pub is : left ≡ take i (common words free) ++ drop i left₀
   pub parity : (ones sum + ones (bitAnd (setOf (drop i words)) (setOf (drop i held)))) % 2 ≡ ones (bitAnd (setOf words) (setOf held)) % 2
 
+-- one place more of a list taken over from another
 over : (i : ℕ) (z l : List ℕ) → i < length z → length l ≡ length z → set (take i z ++ drop i l) i (getD z i 0) ≡ take (suc i) z ++ drop (suc i) l
 over i [] l h e = let z : ⊥ = omega arith in absurd z
 over i (x ∷ z) [] h e = let z : ⊥ = omega (arith, e) in absurd z
@@ -103,13 +105,16 @@ module _ (n : ℕ) (held free ws cs ps left cs′ : List ℕ) (j : ℕ) (fit : L
   flips = ones (bitAnd own (setOf held)) % 2
 
   abbrev open-row : List ℕ
-  open-row = common (row w ws s) free
+  open-row = openOf w free ws s
 
   abbrev left-next : List ℕ
   left-next = put w j left open-row
 
+  abbrev constant : ℕ
+  constant = flippedOf w held ws cs s
+
   abbrev cs-next : List ℕ
-  cs-next = set cs′ j (bitXor (getD cs s 0) flips)
+  cs-next = set cs′ j constant
 
   few : length (row w ws s) ≤ length free
   few = omega (arith, row-length w ws s (fit .words), fit .atoms)
@@ -120,16 +125,16 @@ module _ (n : ℕ) (held free ws cs ps left cs′ : List ℕ) (j : ℕ) (fit : L
   row-is : setOf (row w left-next j) ≡ bitAnd own (setOf free)
   row-is = ap setOf (put-row w j left room open-row long) ∙ common-set 64 (row w ws s) free few
 
-  constant-is : getD cs-next j 0 ≡ bitXor (getD cs s 0) flips
-  constant-is = getD-set-same cs′ j (bitXor (getD cs s 0) flips) 0 place
+  constant-is : getD cs-next j 0 ≡ constant
+  constant-is = getD-set-same cs′ j constant 0 place
 
   small : flips < 2
   small = mod-lt (ones (bitAnd own (setOf held))) (omega arith)
 
   only : OnlyRow w j left cs′ left-next cs-next
-  only = put-only w j left room open-row long cs′ (bitXor (getD cs s 0) flips)
+  only = put-only w j left room open-row long cs′ constant
 
-  opened-row : (p : _) → Masked n p held free → rowAt n w left-next cs-next j ≡ substituted p (rowAt n w ws cs s)
+  opened-row : (p : Decisions) → Masked n p held free → rowAt n w left-next cs-next j ≡ substituted p (rowAt n w ws cs s)
   unfolding rowAt
   opened-row p m =
       ap₂ (λ (l : List Bool) (c : Bool). record { atoms = l; constant = c })
@@ -147,7 +152,7 @@ module _ (n : ℕ) (held free ws cs ps left cs′ : List ℕ) (j : ℕ) (fit : L
     where
       by : (i : ℕ) → i < j + 1 → (t : Bool) → eqb i j ≡ t
           → (setOf (row w left-next i) < 2 ^ n) × (getD cs-next i 0 < 2)
-          × ((p : _) → Masked n p held free → rowAt n w left-next cs-next i ≡ substituted p (rowAt n w ws cs (getD ps i 0)))
+          × ((p : Decisions) → Masked n p held free → rowAt n w left-next cs-next i ≡ substituted p (rowAt n w ws cs (getD ps i 0)))
       by i h true e =
           rw (eqb-true i j e) (
             rw row-is (lt-of-le-of-lt (and-le-l own (setOf free)) (fit .below)),

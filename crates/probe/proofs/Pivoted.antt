@@ -19,7 +19,7 @@ use Rattle.probe.specs.Steps.{pivots}
 
 -- ---- the atoms of a sum
 
-pub has-plus : (r s : List Bool) (a : ℕ) → getD (plus r s) a false ≡ xor (getD r a false) (getD s a false)
+has-plus : (r s : List Bool) (a : ℕ) → getD (plus r s) a false ≡ xor (getD r a false) (getD s a false)
 has-plus [] s a = sym (xor-false (getD s a false))
 has-plus (b ∷ r) [] a = sym (xor-comm (getD (b ∷ r) a false) false ∙ xor-false (getD (b ∷ r) a false))
 has-plus (b ∷ r) (c ∷ s) zero = refl
