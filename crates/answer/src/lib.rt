@@ -1,4 +1,6 @@
 // A file answered: checked whole, refused with a line, or loaded, prepared and answered line by line.
+#![tactic(auto)]
+
 ghost use Rattle.std.specs.Prelude.{◌≡◌, ◌≤◌, length, take};
 ghost use Rattle.text.specs.Text.{Wrote};
 ghost use Rattle.answer.specs.Text.{system_line, answers_of, text_of};

@@ -1,5 +1,7 @@
 // The calls that document 01 asks for behind a reference, for C: the knowledge lent by `&mut`, and the forced list as a lent slice of
 // `Forced`. Each is thin: a covered function above the by-value call does the work, and the call stores what it returns.
+#![tactic(auto)]
+
 ghost use Rattle.std.specs.Prelude.{◌≡◌, map, ◌≤◌, min, length, take, replicate};
 ghost use Rattle.snapshot.specs.Knowledge.{publish_of};
 ghost use Rattle.inspect.specs.Inspect.{filled, inspect_of};

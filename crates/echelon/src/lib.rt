@@ -1,4 +1,6 @@
 // Forward elimination in place: the first part of `prepare` of parity.rs, over flat lent words.
+#![tactic(auto)]
+
 ghost use Rattle.std.specs.Prelude.{◌≡◌, cond, ◌&&◌, ℕ, ◌+◌, ◌*◌, ◌≤◌, ◌<◌, min, length, get_or, set, eqb};
 ghost use Rattle.echelon.specs.Forward.{eliminated};
 ghost use Rattle.echelon.specs.Eliminate.{rows_to, written, outcome, eliminate_unfit, eliminate_of};

@@ -1,4 +1,6 @@
 // A hull's equations written as rows over the atoms that its table names, in lent rows and constants.
+#![tactic(auto)]
+
 ghost use Rattle.std.specs.Prelude.{◌≡◌, ◌++◌, cond, ◌&&◌, ◌+◌, ◌*◌, ◌≤◌, length, take, drop, replicate, leb};
 ghost use Rattle.words.specs.Calls.{inserted};
 ghost use Rattle.hull.specs.Propose.{limit};

@@ -2,6 +2,8 @@
 // stand here, those of `hull` and `embed` in hulls.rt, those of `parity` and `index` in prepares.rt, those of `region`, `snapshot` and
 // `inspect` in inspects.rt, that of `probe` in probes.rt, those on files in files.rt.
 // A row's number, a place of the basis and an atom are plain numbers here. specs/Answers.antt says how each answer is told.
+#![tactic(auto)]
+
 ghost use Rattle.std.specs.Prelude.{◌≡◌, cond, ◌/◌, length, take, drop, replicate, eqb, ltb};
 ghost use Rattle.std.specs.Int.Bits.{bit_or, bit_xor};
 ghost use Rattle.std.specs.Int.Count.{ones};

@@ -1,4 +1,6 @@
 // Whether the rows and constants that a caller lends are fit: document 01's numbers 10, 9 and 11 for m rows over n atoms.
+#![tactic(auto)]
+
 ghost use Rattle.std.specs.Prelude.{◌≡◌, ◌+◌, ◌*◌, ◌^◌, ◌≤◌, min, length, leb};
 ghost use Rattle.words.specs.Set.{set_of};
 ghost use Rattle.rows.specs.Flat.{width_of, row};

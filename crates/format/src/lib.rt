@@ -1,5 +1,7 @@
 // Reading a file of records: bytes, numbers of 2 and of 8 bytes, and a record's fields. A record is its offset `o`, and a field lies `i` bytes
 // from there. Every call is total: past the end of the file a byte is 0.
+#![tactic(auto)]
+
 ghost use Rattle.std.specs.Prelude.{◌≡◌, ◌+◌, ◌<◌, min, length};
 ghost use Rattle.hull.specs.Propose.{limit, table_words, proposal_of};
 ghost use Rattle.format.specs.Bytes.{byte_at, short_at, word_at, list_from};

@@ -1,5 +1,7 @@
 // The equations of a table: a port of hull.rs. The smallest affine set that holds the patterns which a table allows, as equations.
 // Every call is total; specs/Propose.antt has its answer, specs/Steps.antt what the private functions do on the way to it.
+#![tactic(auto)]
+
 ghost use Rattle.std.specs.Prelude.{◌≡◌, ◌/◌, ◌%◌, ◌^◌, ◌-◌, ◌≤◌, ◌<◌, [], length};
 ghost use Rattle.std.specs.Int.Count.{ones};
 ghost use Rattle.hull.specs.Table.{forbids, allowed_from};

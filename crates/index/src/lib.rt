@@ -1,5 +1,7 @@
 // The index: which basis rows have an atom. An atom's column as a part of the lent index, and beside it the number under which it is
 // refused.
+#![tactic(auto)]
+
 ghost use Rattle.std.specs.Prelude.{◌≡◌, ◌+◌, ◌*◌, ◌^◌, ◌≤◌, length, leb};
 ghost use Rattle.words.specs.Set.{set_of};
 ghost use Rattle.rows.specs.Flat.{row};

@@ -1,5 +1,7 @@
 // One inspection: a port of the inspection of parity/runtime.rs over lent memory. Touched basis rows are read against the region as it
 // came, that region is published, and what follows from single rows is then decided in basis order.
+#![tactic(auto)]
+
 ghost use Rattle.std.specs.Prelude.{◌≡◌};
 ghost use Rattle.region.specs.Masks.{decisions};
 ghost use Rattle.inspect.specs.Batch.{begun, applied};

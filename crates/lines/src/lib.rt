@@ -1,4 +1,6 @@
 // The lines of a file's calls: each record of kind 4 to 6 is a call over one region and one knowledge, and adds its line.
+#![tactic(auto)]
+
 ghost use Rattle.std.specs.Prelude.{◌≡◌, ◌≤◌, length};
 ghost use Rattle.snapshot.specs.Touch.{past_rank_of};
 ghost use Rattle.inspect.specs.Inspect.{filled};

@@ -1,4 +1,6 @@
 // Loading a file: the whole file is checked, then its rows and tables are written as rows into lent memory.
+#![tactic(auto)]
+
 ghost use Rattle.std.specs.Prelude.{◌≡◌, [], ◌∷◌, ◌++◌, ◌+◌, ◌≤◌, length, take, drop, replicate};
 ghost use Rattle.hull.specs.Propose.{limit};
 ghost use Rattle.rows.specs.Flat.{width_of};

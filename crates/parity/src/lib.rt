@@ -1,4 +1,6 @@
 // Preparation (parity.rs) over flat lent words: forward elimination, units and index.
+#![tactic(auto)]
+
 ghost use Rattle.std.specs.Prelude.{◌≡◌, ◌≤◌};
 ghost use Rattle.parity.specs.Prepare.{lent, lists_short, prepare_unfit, told_of, prepare_of};
 

@@ -1,4 +1,6 @@
 // The probe: whether the rest can come out, a port of consistent_in_reserved of parity/runtime.rs over lent memory.
+#![tactic(auto)]
+
 ghost use Rattle.std.specs.Prelude.{◌≡◌, ◌≤◌, length, take};
 ghost use Rattle.std.specs.Int.Count.{ones};
 ghost use Rattle.words.specs.Set.{set_of};

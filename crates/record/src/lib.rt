@@ -1,4 +1,6 @@
 // One record of a file: the checks of its form and of its fields, document 01's numbers 1 to 5, each with its offset.
+#![tactic(auto)]
+
 pub mod faults;
 pub mod fields;
 pub mod form;

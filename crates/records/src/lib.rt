@@ -1,4 +1,6 @@
 // The check of a file of records: document 01's numbers for the sender of a file, 1 to 8, each with its offset.
+#![tactic(auto)]
+
 ghost use Rattle.std.specs.Prelude.{◌≡◌, cond, eqb};
 ghost use Rattle.format.specs.Format.{count_at};
 ghost use Rattle.format.specs.Starts.{starts};

@@ -1,5 +1,7 @@
 // A region: which of n atoms are settled. Held atoms are true, cut ones false, the others open.
 // Every call is total: an unfit region, or an atom not below n, is refused with document 01's number and comes back as passed.
+#![tactic(auto)]
+
 ghost use Rattle.std.specs.Prelude.{◌≡◌, cond, not, length, eqb};
 ghost use Rattle.std.specs.Int.Bits.{bit_and};
 ghost use Rattle.words.specs.Set.{set_of};

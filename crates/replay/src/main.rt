@@ -1,5 +1,7 @@
 // Replays recorded answers of the Rust on the compiled library, and prints how many agree. tests/pack.py packs standard input: the cases of
 // `propose`, of `prepare` and of whole files, each kind after the number of its cases.
+#![tactic(auto)]
+
 use tape::Tape;
 
 mod files;

@@ -1,5 +1,7 @@
 // Rows of parity equations in flat lent words: row r at typeof.r.W words of the rows, its constant at byte r of the constants.
 // Every call is total: where a row, a constant or a mask does not lie within what is lent, nothing is changed and the answer says so.
+#![tactic(auto)]
+
 ghost use Rattle.std.specs.Prelude.{◌≡◌, cond, ◌&&◌, ◌+◌, ◌*◌, ◌≤◌, ◌<◌, length, leb, ltb};
 ghost use Rattle.rows.specs.Flat.{width_of};
 ghost use Rattle.rows.specs.Calls.{source_of, part_of, row_of, lowest_of, overlap_parity_of, is_odd, overlap_count_of, addable, added_words, added_constants};

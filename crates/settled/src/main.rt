@@ -1,5 +1,7 @@
 // The small settled examples of document 01 that run. What is expected of a call is proved besides, since `expect` asks for it; what the check says
 // of files is printed, and held to `stdout`.
+#![tactic(auto)]
+
 ghost use Rattle.std.specs.Prelude.{◌≡◌, [], ◌≤◌, ◌<◌, replicate};
 ghost use Rattle.parity.specs.Prepare.{lent, prepare_unfit};
 

@@ -1,5 +1,7 @@
 // Knowledge of the region that was inspected last, a port of snapshot.rs, and the basis rows that the decisions made since then touch.
 // Every call is total: unfit arguments are refused with document 01's number.
+#![tactic(auto)]
+
 ghost use Rattle.std.specs.Prelude.{◌≡◌, ◌%◌, ◌^◌, ◌≤◌, length};
 ghost use Rattle.words.specs.Set.{set_of, has, subset};
 ghost use Rattle.rows.specs.Flat.{unpack};

@@ -1,4 +1,6 @@
 // The program `swaps`: reads a file from standard input, answers it, writes the text.
+#![tactic(auto)]
+
 fn main() {
     let mut file = [0u8; 65537];
     let n = io::read_full(0, &mut file);

@@ -1,5 +1,7 @@
 // Text written into lent bytes: words, decimals, and the two in turn. Every call is total: it writes what fits from a place on and answers
 // the place after it, so that calls follow one another, and whether all of it fitted is asked once, of the whole text.
+#![tactic(auto)]
+
 ghost use Rattle.std.specs.Prelude.{◌≡◌, [], ◌∷◌, ◌+◌, ◌%◌, min};
 ghost use Rattle.text.specs.Text.{decimal_of, one_of, two_of, Wrote};
 

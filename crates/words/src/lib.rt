@@ -1,6 +1,8 @@
 // Packed sets of atoms over lent words, at any width: a port of words.rs and words/storage.rs.
 // Every call is total. Where the Rust panics (an atom past the end, slices of unequal length, more bits than a usize counts),
 // nothing is changed and the answer says so; specs/Calls.antt has each call's definition.
+#![tactic(auto)]
+
 ghost use Rattle.std.specs.Prelude.{◌≡◌, ◌/◌, length, replicate, eqb, ltb};
 ghost use Rattle.std.specs.Int.Bits.{bit_or, bit_xor};
 ghost use Rattle.std.specs.Int.Count.{ones};

@@ -10,45 +10,45 @@ use borrow.Author.Rules.{rules}
 use Rattle.words.proofs.clear.Statement.{statement}
 use Rattle.words.proofs.clear.Tie as tie
 
-abbrev invariant-loop : tie.invariant-loop
+abbrev invariant-loop : tie.invariant-loop-i
 invariant-loop words₀ i₀ words i = (i ≤ length words₀) × (length words ≡ length words₀) × (words ≡ replicate i 0 ++ drop i words₀)
 
-abbrev decreases-loop : tie.decreases-loop
+abbrev decreases-loop : tie.decreases-loop-i
 decreases-loop words₀ i₀ words i = length words₀ - i
 
-loop-holds : tie.Need-loop-init invariant-loop decreases-loop
+loop-holds : tie.Need-loop-i-init invariant-loop decreases-loop
 loop-holds c = (search rules, refl, refl)
 
-mul_words : tie.Need-overflow-mul-words invariant-loop decreases-loop
+mul_words : tie.Need-offset_bounds-words-i invariant-loop decreases-loop
 mul_words c = search rules
 
-slice-write-words : tie.Need-slice-write-words invariant-loop decreases-loop
+slice-write-words : tie.Need-bounds-words-i invariant-loop decreases-loop
 slice-write-words c = search rules
 
-add-i : tie.Need-overflow-add-i invariant-loop decreases-loop
+add-i : tie.Need-overflow_add-i invariant-loop decreases-loop
 add-i c = search rules
 
-loop-less : tie.Need-loop-smaller invariant-loop decreases-loop
+loop-less : tie.Need-loop-i-smaller invariant-loop decreases-loop
 loop-less c = search rules
 
-loop-again : tie.Need-loop-preserved invariant-loop decreases-loop
+loop-again : tie.Need-loop-i-preserved invariant-loop decreases-loop
 loop-again c =
     let at = c.before in
     let l = at.before.args.words.now in (
       omega arith,
-      simp length-set at.loop.invariant.1,
-      ap (λ (w : List ℕ). set w at.loop.i 0) at.loop.invariant.2 ∙ fill_more at.loop.i 0 l (omega arith),
+      simp length-set at.loop-i.invariant.1,
+      ap (λ (w : List ℕ). set w at.loop-i.i 0) at.loop-i.invariant.2 ∙ fill_more at.loop-i.i 0 l (omega arith),
     )
 
-same_length : tie.Need-same-length invariant-loop decreases-loop
+same_length : tie.Need-shape_of-words invariant-loop decreases-loop
 same_length c = search rules
 
 returns : tie.Need-returns invariant-loop decreases-loop
 returns c =
     let at = c.before in
     let l = at.before.args.words.now in
-    let done : at.loop.i ≡ length l = omega arith in
-    at.loop.invariant.2 ∙ ap (λ (n : ℕ). replicate n 0 ++ drop n l) done ∙ ap (λ (m : List ℕ). replicate (length l) 0 ++ m) (drop-length l) ∙ append-nil (replicate (length l) 0)
+    let done : at.loop-i.i ≡ length l = omega arith in
+    at.loop-i.invariant.2 ∙ ap (λ (n : ℕ). replicate n 0 ++ drop n l) done ∙ ap (λ (m : List ℕ). replicate (length l) 0 ++ m) (drop-length l) ∙ append-nil (replicate (length l) 0)
 
 pub clear_spec : {M : Type 1} → statement M
 clear_spec =

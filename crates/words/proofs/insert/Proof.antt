@@ -12,43 +12,43 @@ use borrow.Author.Rules.{rules}
 use Rattle.words.proofs.insert.Statement.{statement}
 use Rattle.words.proofs.insert.Tie as tie
 
-locate-requires : tie.Need-locate-requires
+locate-requires : tie.Need-locate-place-requires
 locate-requires c κs = search rules
 
-returns : tie.Need-returns
+returns : tie.Need-returns-then-words-word
 unfolding inserted
 returns c =
     let a = c.before.before.before.args in
-    let past : length a.words.now ≤ a.atom / 64 = omega (arith, ap (λ (p : Place). p.word) c.before.locate.ensures) in
+    let past : length a.words.now ≤ a.atom / 64 = omega (arith, ap (λ (p : Place). p.word) c.before.locate-place.ensures) in
     (sym (le-ltb (a.atom / 64) (length a.words.now) past), sym (set_out a.words.now (a.atom / 64) _ past))
 
-mul_words : tie.Need-overflow-mul-words
+mul_words : tie.Need-offset_bounds-words-word
 mul_words c = search rules
 
-slice-read-words : tie.Need-slice-read-words
+slice-read-words : tie.Need-bounds-words-word
 slice-read-words c = search rules
 
-mul-words-2 : tie.Need-overflow-mul-words-2
+mul-words-2 : tie.Need-offset_bounds-words-word-2
 mul-words-2 c = search rules
 
-slice-write-words : tie.Need-slice-write-words
+slice-write-words : tie.Need-bounds-words-word-2
 slice-write-words c = search rules
 
-same_length : tie.Need-same-length
+same_length : tie.Need-shape_of-words
 same_length c = search rules
 
-returns-2 : tie.Need-returns-2
+returns-2 : tie.Need-returns
 unfolding inserted
 returns-2 c =
     let call = c.before.before.before in
     let a = call.before.before.args in
-    let within : a.atom / 64 < length a.words.now = omega (arith, ap (λ (p : Place). p.word) call.locate.ensures) in (
+    let within : a.atom / 64 < length a.words.now = omega (arith, ap (λ (p : Place). p.word) call.locate-place.ensures) in (
       sym (lt-ltb (a.atom / 64) (length a.words.now) within),
-      ap (λ (p : Place). set a.words.now p.word (bit_or (get_or a.words.now p.word 0) p.bit)) call.locate.ensures,
+      ap (λ (p : Place). set a.words.now p.word (bit_or (get_or a.words.now p.word 0) p.bit)) call.locate-place.ensures,
     )
 
-pub insert-spec : {M : Type 1} → statement M
-insert-spec =
+pub insert_spec : {M : Type 1} → statement M
+insert_spec =
     tie.close
     (tie.spec
     locate-requires

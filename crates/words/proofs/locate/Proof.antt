@@ -6,11 +6,11 @@ use borrow.Author.Rules.{rules}
 use Rattle.words.proofs.locate.Statement.{statement}
 use Rattle.words.proofs.locate.Tie as tie
 
-shl-t5 : tie.Need-overflow-shl-t5
+shl-t5 : tie.Need-overflow_shl-result
 shl-t5 c = search rules
 
 returns : tie.Need-returns
 returns c = ap (λ (b : ℕ). record { word = c.args.atom / 64; bit = b }) (one_bit c.args.atom)
 
-pub locate-spec : {M : Type 1} → statement M
-locate-spec = tie.close (tie.spec shl-t5 returns)
+pub locate_spec : {M : Type 1} → statement M
+locate_spec = tie.close (tie.spec shl-t5 returns)

@@ -6,5 +6,5 @@ use Rattle.words.proofs.promises.atom_is_bit.Tie as tie
 returns : tie.Need-returns
 returns c = atom_is_bit
 
-pub atom-is-bit-spec : {M : Type 1} → statement M
-atom-is-bit-spec = tie.close (tie.spec returns)
+pub atom_is_bit_spec : {M : Type 1} → statement M
+atom_is_bit_spec = tie.close (tie.spec returns)

@@ -6,5 +6,5 @@ use Rattle.words.proofs.promises.first_is_lowest.Tie as tie
 returns : tie.Need-returns
 returns c = first_is_lowest
 
-pub first-is-lowest-spec : {M : Type 1} → statement M
-first-is-lowest-spec = tie.close (tie.spec returns)
+pub first_is_lowest_spec : {M : Type 1} → statement M
+first_is_lowest_spec = tie.close (tie.spec returns)

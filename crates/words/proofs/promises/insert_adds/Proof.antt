@@ -6,5 +6,5 @@ use Rattle.words.proofs.promises.insert_adds.Tie as tie
 returns : tie.Need-returns
 returns c = insert_adds
 
-pub insert-adds-spec : {M : Type 1} → statement M
-insert-adds-spec = tie.close (tie.spec returns)
+pub insert_adds_spec : {M : Type 1} → statement M
+insert_adds_spec = tie.close (tie.spec returns)

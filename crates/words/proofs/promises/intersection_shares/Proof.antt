@@ -6,5 +6,5 @@ use Rattle.words.proofs.promises.intersection_shares.Tie as tie
 returns : tie.Need-returns
 returns c = intersection_shares
 
-pub intersection-shares-spec : {M : Type 1} → statement M
-intersection-shares-spec = tie.close (tie.spec returns)
+pub intersection_shares_spec : {M : Type 1} → statement M
+intersection_shares_spec = tie.close (tie.spec returns)

@@ -6,5 +6,5 @@ use Rattle.words.proofs.promises.merge_joins.Tie as tie
 returns : tie.Need-returns
 returns c = merge_joins
 
-pub merge-joins-spec : {M : Type 1} → statement M
-merge-joins-spec = tie.close (tie.spec returns)
+pub merge_joins_spec : {M : Type 1} → statement M
+merge_joins_spec = tie.close (tie.spec returns)

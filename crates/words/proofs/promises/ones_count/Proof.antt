@@ -6,5 +6,5 @@ use Rattle.words.proofs.promises.ones_count.Tie as tie
 returns : tie.Need-returns
 returns c = ones_count
 
-pub ones-count-spec : {M : Type 1} → statement M
-ones-count-spec = tie.close (tie.spec returns)
+pub ones_count_spec : {M : Type 1} → statement M
+ones_count_spec = tie.close (tie.spec returns)

@@ -6,5 +6,5 @@ use Rattle.words.proofs.promises.same_atoms.Tie as tie
 returns : tie.Need-returns
 returns c = same_atoms
 
-pub same-atoms-spec : {M : Type 1} → statement M
-same-atoms-spec = tie.close (tie.spec returns)
+pub same_atoms_spec : {M : Type 1} → statement M
+same_atoms_spec = tie.close (tie.spec returns)

@@ -6,5 +6,5 @@ use Rattle.words.proofs.promises.step_visits.Tie as tie
 returns : tie.Need-returns
 returns c = step_visits
 
-pub step-visits-spec : {M : Type 1} → statement M
-step-visits-spec = tie.close (tie.spec returns)
+pub step_visits_spec : {M : Type 1} → statement M
+step_visits_spec = tie.close (tie.spec returns)

@@ -6,5 +6,5 @@ use Rattle.words.proofs.promises.subset_holds.Tie as tie
 returns : tie.Need-returns
 returns c = subset_holds
 
-pub subset-holds-spec : {M : Type 1} → statement M
-subset-holds-spec = tie.close (tie.spec returns)
+pub subset_holds_spec : {M : Type 1} → statement M
+subset_holds_spec = tie.close (tie.spec returns)
