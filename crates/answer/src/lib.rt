@@ -12,7 +12,7 @@ pub mod promises;
 
 // What `answer` says: 0 and the text's length, or 9.
 #[repr(C)]
-#[derive(Drop)]
+#[derive(Clone, Copy)]
 pub struct Answered {
     pub number: usize,
     pub length: usize,

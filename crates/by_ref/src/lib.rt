@@ -21,7 +21,7 @@ const LIMIT: usize = 512;
 
 // One entry of the forced list: an atom and its value, 0 or 1.
 #[repr(C)]
-#[derive(Drop)]
+#[derive(Clone, Copy)]
 pub struct Forced {
     pub atom: usize,
     pub value: u8,
@@ -30,7 +30,7 @@ pub struct Forced {
 // An inspection without the knowledge: kind 0 unchanged, 1 changed, 2 refuted, or 3 refused with its number; how many atoms it held and
 // cut, how long the forced list is, and the region as it is then.
 #[repr(C)]
-#[derive(Drop)]
+#[derive(Clone, Copy)]
 pub struct Seen {
     pub kind: usize,
     pub number: usize,
@@ -41,14 +41,14 @@ pub struct Seen {
 }
 
 // An inspection in two: what is told, and the knowledge.
-#[derive(Drop)]
+#[derive(Clone, Copy)]
 struct Split {
     seen: Seen,
     known: Snapshot,
 }
 
 // An inspection with its forced list in two arrays.
-#[derive(Drop)]
+#[derive(Clone, Copy)]
 struct Listed {
     inspection: Inspection,
     atoms: [usize; 512],

@@ -13,7 +13,7 @@ mod reduce;
 
 // What `eliminate` answers: its number, and where that is 0 how many pivots there are, how many additions it took, and whether a row was
 // left empty with constant 1.
-#[derive(Drop)]
+#[derive(Clone, Copy)]
 pub struct Eliminated {
     pub number: usize,
     pub rank: usize,

@@ -9,14 +9,14 @@ ghost use Rattle.echelon.specs.Steps.{added_from, Clean, EmptyTo, Directory, hea
 use rows::{Atom, Source};
 
 // A word of a row as it is left, and the additions that it took.
-#[derive(Drop)]
+#[derive(Clone, Copy)]
 struct LeftWord {
     word: u64,
     additions: usize,
 }
 
 // A row as it is left: its lowest atom and the word that has it (0 where the row is empty), and the additions that it took.
-#[derive(Drop)]
+#[derive(Clone, Copy)]
 pub struct LeftRow {
     pub head: u64,
     pub lowest: Atom,

@@ -14,7 +14,7 @@ use snapshot::{Published, Selected, Snapshot};
 
 // A decision: kind 0 taken, 1 same, 2 against, or 3 refused with its number; and the region as it is then.
 #[repr(C)]
-#[derive(Drop)]
+#[derive(Clone, Copy)]
 pub struct Decision {
     pub kind: usize,
     pub number: usize,
@@ -24,7 +24,7 @@ pub struct Decision {
 // An inspection: kind 0 unchanged, 1 changed, 2 refuted, or 3 refused with its number; how many atoms it held and cut, how long the
 // forced list is, and region and knowledge as they are then.
 #[repr(C)]
-#[derive(Drop)]
+#[derive(Clone, Copy)]
 pub struct Inspection {
     pub kind: usize,
     pub number: usize,
@@ -36,7 +36,7 @@ pub struct Inspection {
 }
 
 // Kind and number of an answer.
-#[derive(Drop)]
+#[derive(Clone, Copy)]
 struct Told {
     kind: usize,
     number: usize,

@@ -21,7 +21,7 @@ pub mod probes;
 
 // An answer: kind 0 with its value (of a yes or no: 1 or 0), 1 nothing there, 2 unfit, 3 more bits than a usize numbers.
 #[repr(C)]
-#[derive(Drop)]
+#[derive(Clone, Copy)]
 pub struct Answer {
     pub kind: usize,
     pub value: usize,
@@ -29,7 +29,7 @@ pub struct Answer {
 
 // Where an atom stands: its word, and its bit in that word.
 #[repr(C)]
-#[derive(Drop)]
+#[derive(Clone, Copy)]
 pub struct Located {
     pub word: usize,
     pub bit: u64,
@@ -37,7 +37,7 @@ pub struct Located {
 
 // A visit's step: kind 0 with a bit and the word without it, or 1 where no bit is left.
 #[repr(C)]
-#[derive(Drop)]
+#[derive(Clone, Copy)]
 pub struct Step {
     pub kind: usize,
     pub bit: usize,
@@ -46,7 +46,7 @@ pub struct Step {
 
 // A row's place among the words, or a column's in the index: kind 0 with its start and length, or 2 where it is not there.
 #[repr(C)]
-#[derive(Drop)]
+#[derive(Clone, Copy)]
 pub struct Span {
     pub kind: usize,
     pub start: usize,

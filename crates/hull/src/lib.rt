@@ -13,7 +13,7 @@ pub mod promises;
 
 // One equation of a table: the atoms named whose bit is set add up to the constant.
 #[repr(C)]
-#[derive(Drop)]
+#[derive(Clone, Copy)]
 pub struct LocalEquation {
     pub coefficients: u8,
     pub constant: bool,
@@ -27,7 +27,7 @@ const BLANK: LocalEquation = LocalEquation {
 
 // The equations of a table, and whether the allowed patterns are just those that meet them. Places from `count` on hold 0.
 #[repr(C)]
-#[derive(Drop)]
+#[derive(Clone, Copy)]
 pub struct Hull {
     pub equations: [LocalEquation; 8],
     pub count: usize,
@@ -36,14 +36,14 @@ pub struct Hull {
 
 // `propose` answers 0 and the hull, or 17 and 0 in every other field.
 #[repr(C)]
-#[derive(Drop)]
+#[derive(Clone, Copy)]
 pub struct Proposal {
     pub number: usize,
     pub hull: Hull,
 }
 
 // The least-bit echelon of the differences from the anchor, and how many patterns were allowed; at 0 there is no anchor yet.
-#[derive(Drop)]
+#[derive(Clone, Copy)]
 struct Basis {
     pivots: [u8; 8],
     rank: usize,

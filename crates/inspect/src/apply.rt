@@ -10,7 +10,7 @@ use region::Region;
 use rows::Atom;
 
 // How many atoms were decided as held and as cut, and whether one was decided otherwise.
-#[derive(Drop)]
+#[derive(Clone, Copy)]
 struct Tally {
     held: usize,
     cut: usize,

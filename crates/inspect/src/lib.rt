@@ -20,7 +20,7 @@ pub mod promises;
 mod says;
 
 // What a row says against a region: nothing, an atom with its value, or that its parity is wrong.
-#[derive(Drop)]
+#[derive(Clone, Copy)]
 enum Reading {
     Quiet,
     Forces(Atom, bool),
@@ -28,14 +28,14 @@ enum Reading {
 }
 
 // The forced list's length, and whether no row was wrong.
-#[derive(Drop)]
+#[derive(Clone, Copy)]
 struct Collected {
     forced: usize,
     sound: bool,
 }
 
 // A region with forced atoms decided, how many of them as held and as cut, and whether one was decided otherwise.
-#[derive(Drop)]
+#[derive(Clone, Copy)]
 struct Applied {
     region: Region,
     held: usize,
@@ -44,7 +44,7 @@ struct Applied {
 }
 
 // What becomes of an inspection.
-#[derive(Drop)]
+#[derive(Clone, Copy)]
 pub enum Step {
     Unchanged,
     Changed,
@@ -53,7 +53,7 @@ pub enum Step {
 }
 
 // What `inspect` answers: how many atoms it decided as held and as cut, the forced list's length, and region and knowledge as they are now.
-#[derive(Drop)]
+#[derive(Clone, Copy)]
 pub struct Inspected {
     pub answer: Step,
     pub held: usize,

@@ -18,7 +18,7 @@ use snapshot::Snapshot;
 mod print;
 
 // The place after a record's line, and region and knowledge as its call leaves them.
-#[derive(Drop)]
+#[derive(Clone, Copy)]
 struct Placed {
     place: usize,
     region: Region,

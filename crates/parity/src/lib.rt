@@ -10,7 +10,7 @@ mod units;
 
 // A system as preparation leaves it: how many atoms and rows there are, how many basis rows, and whether it was refuted.
 #[repr(C)]
-#[derive(Drop)]
+#[derive(Clone, Copy)]
 pub struct System {
     pub atoms: usize,
     pub rows: usize,
@@ -20,7 +20,7 @@ pub struct System {
 
 // What `prepare` answers: its number, and where that is 0 the system with the counts of preparation.
 #[repr(C)]
-#[derive(Drop)]
+#[derive(Clone, Copy)]
 pub struct Prepared {
     pub number: usize,
     pub system: System,

@@ -19,7 +19,7 @@ use parity::System;
 use rows::{Ordinal, Source};
 
 // How many rows are kept, and whether none was left empty with constant 1.
-#[derive(Drop)]
+#[derive(Clone, Copy)]
 pub struct Eliminated {
     pub kept: usize,
     pub sound: bool,

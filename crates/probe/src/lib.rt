@@ -18,7 +18,7 @@ pub mod promises;
 
 // What the probe answers: its number, yes or no, u (the atoms neither held nor cut) and k (the rows kept).
 #[repr(C)]
-#[derive(Drop)]
+#[derive(Clone, Copy)]
 pub struct Probed {
     pub number: usize,
     pub yes: bool,

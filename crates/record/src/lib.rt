@@ -6,7 +6,7 @@ pub mod fields;
 pub mod form;
 
 // A fault's number and offset; where there is none the number is 0.
-#[derive(Drop)]
+#[derive(Clone, Copy)]
 pub struct Fault {
     pub number: usize,
     pub offset: usize,

@@ -13,7 +13,7 @@ mod bring;
 pub mod promises;
 
 // What was seen of the records so far: the group of the last one's kind, the atom count, and the rows.
-#[derive(Drop)]
+#[derive(Clone, Copy)]
 pub struct Seen {
     pub group: usize,
     pub atoms: usize,
@@ -21,14 +21,14 @@ pub struct Seen {
 }
 
 // How many rows a record brings, and whether they say just what it says.
-#[derive(Drop)]
+#[derive(Clone, Copy)]
 struct Brought {
     exact: bool,
     rows: usize,
 }
 
 // What a record comes to: its fault, and what is seen with it, or still what was where it has one.
-#[derive(Drop)]
+#[derive(Clone, Copy)]
 struct Step {
     fault: Fault,
     seen: Seen,
@@ -36,7 +36,7 @@ struct Step {
 
 // A fit file has the number 0; one that is refused has 0 for its atoms and rows.
 #[repr(C)]
-#[derive(Drop)]
+#[derive(Clone, Copy)]
 pub struct Checked {
     pub number: usize,
     pub offset: usize,

@@ -17,7 +17,7 @@ const LIMIT: usize = 512;
 
 // "n, held and cut masks"
 #[repr(C)]
-#[derive(Drop)]
+#[derive(Clone, Copy)]
 pub struct Region {
     pub atoms: usize,
     pub held: [u64; 8],
@@ -25,7 +25,7 @@ pub struct Region {
 }
 
 // What becomes of a decision.
-#[derive(Drop)]
+#[derive(Clone, Copy)]
 pub enum Answer {
     Taken,
     Same,
@@ -34,7 +34,7 @@ pub enum Answer {
 }
 
 // A region with a decision made, beside the answer.
-#[derive(Drop)]
+#[derive(Clone, Copy)]
 pub struct Decided {
     pub region: Region,
     pub answer: Answer,
@@ -42,7 +42,7 @@ pub struct Decided {
 
 // A new region, beside the number under which it is refused, or 0.
 #[repr(C)]
-#[derive(Drop)]
+#[derive(Clone, Copy)]
 pub struct NewRegion {
     pub number: usize,
     pub region: Region,

@@ -8,7 +8,7 @@ use rows::Atom;
 use snapshot::Snapshot;
 
 // The recorded values so far, and the state between calls.
-#[derive(Drop)]
+#[derive(Clone, Copy)]
 struct Run {
     tape: Tape,
     region: Region,

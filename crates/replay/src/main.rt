@@ -10,7 +10,7 @@ mod tables;
 mod tape;
 
 // How many answers agree, of how many, and the place behind them.
-#[derive(Drop)]
+#[derive(Clone, Copy)]
 struct Tally {
     agreed: usize,
     asked: usize,

@@ -3,7 +3,7 @@
 ghost use Rattle.std.specs.Prelude.{◌≤◌, ◌<◌, length};
 
 // Where the next value stands, and whether all so far are as recorded.
-#[derive(Drop)]
+#[derive(Clone, Copy)]
 pub struct Tape {
     pub at: usize,
     pub agrees: bool,

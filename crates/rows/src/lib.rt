@@ -1,4 +1,4 @@
-// Rows of parity equations in flat lent words: row r at typeof.r.W words of the rows, its constant at byte r of the constants.
+// Rows of parity equations in flat lent words: row r at r·W words of the rows, its constant at byte r of the constants.
 // Every call is total: where a row, a constant or a mask does not lie within what is lent, nothing is changed and the answer says so.
 #![tactic(auto)]
 
@@ -9,26 +9,26 @@ ghost use Rattle.rows.specs.Calls.{source_of, part_of, row_of, lowest_of, overla
 pub mod promises;
 
 // A measure's number.
-#[derive(Drop)]
+#[derive(Clone, Copy)]
 pub struct Atom(pub usize);
 
 // A row's place in the basis.
-#[derive(Drop)]
+#[derive(Clone, Copy)]
 pub struct Ordinal(pub usize);
 
 // A row's number among the rows. Rows are read by this number alone.
-#[derive(Drop)]
+#[derive(Clone, Copy)]
 pub struct Source(pub usize);
 
 // What a place of the basis names.
-#[derive(Drop)]
+#[derive(Clone, Copy)]
 pub enum Entry {
     Names(Source),
     Nothing,
 }
 
 // A row's lowest atom. Here and below, Outside is a row or a mask that is not there, or one of more bits than a usize numbers.
-#[derive(Drop)]
+#[derive(Clone, Copy)]
 pub enum Lowest {
     At(Atom),
     Empty,
@@ -36,7 +36,7 @@ pub enum Lowest {
 }
 
 // The parity of what a row shares with a mask.
-#[derive(Drop)]
+#[derive(Clone, Copy)]
 pub enum Parity {
     Even,
     Odd,
@@ -44,7 +44,7 @@ pub enum Parity {
 }
 
 // How many atoms a row shares with a mask.
-#[derive(Drop)]
+#[derive(Clone, Copy)]
 pub enum Overlap {
     Atoms(usize),
     Outside,

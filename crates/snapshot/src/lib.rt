@@ -20,7 +20,7 @@ const LIMIT: usize = 512;
 
 // The region of the last inspection that was published, if any was.
 #[repr(C)]
-#[derive(Drop)]
+#[derive(Clone, Copy)]
 pub struct Snapshot {
     pub initialized: bool,
     pub atoms: usize,
@@ -30,7 +30,7 @@ pub struct Snapshot {
 
 // Knowledge after a publication, beside the number under which it is refused, or 0.
 #[repr(C)]
-#[derive(Drop)]
+#[derive(Clone, Copy)]
 pub struct Published {
     pub number: usize,
     pub known: Snapshot,
@@ -38,14 +38,14 @@ pub struct Published {
 
 // A set of basis rows, bit j of it for ordinal j.
 #[repr(C)]
-#[derive(Drop)]
+#[derive(Clone, Copy)]
 pub struct Ordinals {
     pub words: [u64; 8],
 }
 
 // The basis rows that are touched, beside the number under which the call is refused, or 0.
 #[repr(C)]
-#[derive(Drop)]
+#[derive(Clone, Copy)]
 pub struct Selected {
     pub number: usize,
     pub rows: Ordinals,

@@ -15,27 +15,27 @@ pub mod promises;
 const TOO_WIDE: usize = 0x0400_0000_0000_0000;
 
 // Where an atom stands: its word, and its bit in that word.
-#[derive(Drop)]
+#[derive(Clone, Copy)]
 pub struct Place {
     pub word: usize,
     pub bit: u64,
 }
 
 // The set bits of one word that are still to be visited.
-#[derive(Drop)]
+#[derive(Clone, Copy)]
 pub struct SetBits {
     pub remaining: u64,
 }
 
 // A visit's next step: a bit, with those above it, or the end.
-#[derive(Drop)]
+#[derive(Clone, Copy)]
 pub enum Next {
     Bit(usize, SetBits),
     Done,
 }
 
 // The lowest atom of a set, if it has one.
-#[derive(Drop)]
+#[derive(Clone, Copy)]
 pub enum Found {
     At(usize),
     Nothing,
@@ -43,7 +43,7 @@ pub enum Found {
 }
 
 // A number of atoms.
-#[derive(Drop)]
+#[derive(Clone, Copy)]
 pub enum Counted {
     Are(usize),
     Unequal,
@@ -51,7 +51,7 @@ pub enum Counted {
 }
 
 // A yes or no about two sets of one width.
-#[derive(Drop)]
+#[derive(Clone, Copy)]
 pub enum Verdict {
     Yes,
     No,

@@ -12,58 +12,58 @@ use borrow.Author.Rules.{rules}
 use Rattle.rows.proofs.overlap_parity.Statement.{statement}
 use Rattle.rows.proofs.overlap_parity.Tie as tie
 
-row-requires : tie.Need-row-requires
+row-requires : tie.Need-row-words-requires
 row-requires c κs = search rules
 
-answer : (c : tie.After-intersection-parity)
-    → parity_in c.intersection-parity.result
-    ≡ overlap_parity_of c.before.before.before.before.before.before.before.args.width c.before.before.before.before.before.before.before.args.rows.now c.before.before.before.before.before.before.before.args.number c.before.before.before.before.before.before.before.args.mask.now
+answer : (c : tie.After-intersection_parity)
+    → parity_in c.intersection_parity.result
+    ≡ overlap_parity_of c.args.width c.args.rows.now c.args.number c.args.mask.now
 answer c =
-    let row = c.before.before.before.before in
-    let a = row.before.before.before.args in
-    let there = row_there a.width a.rows.now a.number (sym (ap length row.row.ensures) ∙ c.before.before.before.if1.false) in
-    ap parity_in (c.intersection-parity.ensures ∙ ap (λ (l : List ℕ). words.parityOf l (take a.width a.mask.now)) row.row.ensures)
-    ∙ parity_there a.width a.rows.now a.number there a.mask.now c.before.before.if2.false
+    let row = c in
+    let a = row.args in
+    let there = row_there a.width a.rows.now a.number (sym (ap length row.row-words.ensures) ∙ c.if-words-width.false) in
+    ap parity_in (c.intersection_parity.ensures ∙ ap (λ (l : List ℕ). words.parity_of l (take a.width a.mask.now)) row.row-words.ensures)
+    ∙ parity_there a.width a.rows.now a.number there a.mask.now c.if-mask-width.false
 
-returns : tie.Need-returns
+returns : tie.Need-returns-then-words-width
 returns c =
-    let a = c.before.before.before.before.args in
-    let no = row_outside a.width a.rows.now a.number (λ e. c.if1.true (ap length c.before.row.ensures ∙ e)) in
+    let a = c.args in
+    let no = row_outside a.width a.rows.now a.number (λ e. c.if-words-width.true (ap length c.row-words.ensures ∙ e)) in
     parity_outside a.width a.rows.now a.number a.mask.now (no_row a.width a.rows.now a.number a.mask.now no)
 
-returns-2 : tie.Need-returns-2
+returns-2 : tie.Need-returns-then-mask-width
 returns-2 c =
-    let a = c.before.before.before.before.before.args in
-    parity_outside a.width a.rows.now a.number a.mask.now (no_mask a.width a.rows.now a.number a.mask.now c.if2.true)
+    let a = c.args in
+    parity_outside a.width a.rows.now a.number a.mask.now (no_mask a.width a.rows.now a.number a.mask.now c.if-mask-width.true)
 
-slice-aggregate-intersection-parity : tie.Need-slice-aggregate-intersection-parity
+slice-aggregate-intersection-parity : tie.Need-slice_bounds-intersection_parity-end
 slice-aggregate-intersection-parity c =
-    let a = c.before.before.before.before.before.before.args in
-    sym (length-take-le a.width a.mask.now c.before.if2.false)
+    let a = c.args in
+    sym (length-take-le a.width a.mask.now c.if-mask-width.false)
 
-intersection-parity-requires : tie.Need-intersection-parity-requires
+intersection-parity-requires : tie.Need-intersection_parity-requires
 intersection-parity-requires c κs = search rules
 
-enum_told : tie.Need-enum-told
+enum_told : tie.Need-enum_told-1
 enum_told c = search rules
 
-enum-told-2 : tie.Need-enum-told-2
+enum-told-2 : tie.Need-enum_told-in-No
 enum-told-2 c = search rules
 
-enum-told-3 : tie.Need-enum-told-3
+enum-told-3 : tie.Need-enum_told-in-Unequal
 enum-told-3 c = search rules
 
-returns-3 : tie.Need-returns-3
-returns-3 c = sym (ap parity_in c.enum_told.given.1) ∙ answer c.before.before
+returns-3 : tie.Need-returns-in-Yes
+returns-3 c = sym (ap parity_in c.in-Yes.is) ∙ answer c.before
 
-returns-4 : tie.Need-returns-4
-returns-4 c = sym (ap parity_in c.enum-told2.given.1) ∙ answer c.before.before
+returns-4 : tie.Need-returns-in-No
+returns-4 c = sym (ap parity_in c.in-No.is) ∙ answer c.before
 
-returns-5 : tie.Need-returns-5
-returns-5 c = sym (ap parity_in c.enum-told3.given.1) ∙ answer c.before.before
+returns-5 : tie.Need-returns-in-Unequal
+returns-5 c = sym (ap parity_in c.in-Unequal.is) ∙ answer c.before
 
-pub overlap-parity-spec : {M : Type 1} → statement M
-overlap-parity-spec =
+pub overlap_parity_spec : {M : Type 1} → statement M
+overlap_parity_spec =
     tie.close
     (tie.spec
     row-requires

@@ -13,54 +13,54 @@ use borrow.Author.Rules.{rules}
 use Rattle.rows.proofs.part.Statement.{statement}
 use Rattle.rows.proofs.part.Tie as tie
 
-lies-within-requires : tie.Need-lies-within-requires
+lies-within-requires : tie.Need-lies_within-requires
 lies-within-requires c κs = search rules
 
-slice-aggregate-result : tie.Need-slice-aggregate-result
+slice-aggregate-result : tie.Need-slice_bounds-result-end
 slice-aggregate-result c = search rules
 
-returns : tie.Need-returns
+returns : tie.Need-returns-then-not-lies_within
 unfolding part_of
 returns c =
-    let call = c.before.before in
-    let a = call.before.before.args in
-    let e = sym call.lies_within.ensures ∙ not-true _ c.before.if1.true in
+    let call = c in
+    let a = call.args in
+    let e = sym call.lies_within.ensures ∙ not-true _ c.if-not-lies_within.true-raw in
     sym (ap (λ (t : Bool). cond t (row a.width a.words.now a.place) []) e)
 
-fits : (c : tie.Else1)
-    → c.before.before.before.args.place * c.before.before.before.args.width + c.before.before.before.args.width
-    ≤ length c.before.before.before.args.words.now
-fits c = leb-true _ _ (sym c.before.lies_within.ensures ∙ not-false _ c.if1.false)
+fits : (c : tie.Else-not-lies_within)
+    → c.args.place * c.args.width + c.args.width
+    ≤ length c.args.words.now
+fits c = leb-true _ _ (sym c.lies_within.ensures ∙ not-false _ c.if-not-lies_within.false-raw)
 
-mul-start : tie.Need-overflow-mul-start
+mul-start : tie.Need-overflow_mul-start
 mul-start c = omega (arith, fits c)
 
-add-end : tie.Need-overflow-add-end
+add-end : tie.Need-overflow_add-end
 add-end c = omega (arith, fits c)
 
-mul-result : tie.Need-overflow-mul-result
-mul-result c = omega (arith, fits c, c.before.before.before.well-formed.0.1)
+mul-result : tie.Need-offset_bounds-words-start
+mul-result c = omega (arith, fits c, c.well_formed.0.1)
 
-sub-result : tie.Need-overflow-sub-result
+sub-result : tie.Need-slice_bounds-result-count
 sub-result c = search rules
 
-part-result-start : tie.Need-slice-bounds-result-start
+part-result-start : tie.Need-slice_bounds-result-start
 part-result-start c = search rules
 
-part-result-end : tie.Need-slice-bounds-result-end
+part-result-end : tie.Need-slice_bounds-result-end-2
 part-result-end c = omega (arith, fits c)
 
-returns-2 : tie.Need-returns-2
+returns-2 : tie.Need-returns
 unfolding part_of
 returns-2 c =
-    let call = c.before.before in
-    let a = call.before.before.args in
-    let e = sym call.lies_within.ensures ∙ not-false _ c.before.if1.false in
+    let call = c in
+    let a = call.args in
+    let e = sym call.lies_within.ensures ∙ not-false _ c.if-not-lies_within.false-raw in
     ap (λ (k : ℕ). take k (drop (a.place * a.width) a.words.now)) (add-sub_cancel_left (a.place * a.width) a.width)
     ∙ sym (ap (λ (t : Bool). cond t (row a.width a.words.now a.place) []) e)
 
-pub part-spec : {M : Type 1} → statement M
-part-spec =
+pub part_spec : {M : Type 1} → statement M
+part_spec =
     tie.close
     (tie.spec
     lies-within-requires

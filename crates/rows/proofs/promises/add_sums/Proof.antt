@@ -6,5 +6,5 @@ use Rattle.rows.proofs.promises.add_sums.Tie as tie
 returns : tie.Need-returns
 returns c = add_sums
 
-pub add-sums-spec : {M : Type 1} → statement M
-add-sums-spec = tie.close (tie.spec returns)
+pub add_sums_spec : {M : Type 1} → statement M
+add_sums_spec = tie.close (tie.spec returns)

@@ -6,5 +6,5 @@ use Rattle.rows.proofs.Digits.{atoms_fix_words}
 returns : tie.Need-returns
 returns c = atoms_fix_words
 
-pub atoms-fix-words-spec : {M : Type 1} → statement M
-atoms-fix-words-spec = tie.close (tie.spec returns)
+pub atoms_fix_words_spec : {M : Type 1} → statement M
+atoms_fix_words_spec = tie.close (tie.spec returns)

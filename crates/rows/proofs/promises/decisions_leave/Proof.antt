@@ -6,5 +6,5 @@ use Rattle.rows.proofs.Deciding.{decisions_leave}
 returns : tie.Need-returns
 returns c = decisions_leave
 
-pub decisions-leave-spec : {M : Type 1} → statement M
-decisions-leave-spec = tie.close (tie.spec returns)
+pub decisions_leave_spec : {M : Type 1} → statement M
+decisions_leave_spec = tie.close (tie.spec returns)

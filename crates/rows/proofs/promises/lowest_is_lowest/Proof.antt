@@ -6,5 +6,5 @@ use Rattle.rows.proofs.promises.lowest_is_lowest.Tie as tie
 returns : tie.Need-returns
 returns c = lowest_is_lowest
 
-pub lowest-is-lowest-spec : {M : Type 1} → statement M
-lowest-is-lowest-spec = tie.close (tie.spec returns)
+pub lowest_is_lowest_spec : {M : Type 1} → statement M
+lowest_is_lowest_spec = tie.close (tie.spec returns)

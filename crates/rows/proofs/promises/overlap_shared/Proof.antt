@@ -6,5 +6,5 @@ use Rattle.rows.proofs.promises.overlap_shared.Tie as tie
 returns : tie.Need-returns
 returns c = overlap_shared
 
-pub overlap-shared-spec : {M : Type 1} → statement M
-overlap-shared-spec = tie.close (tie.spec returns)
+pub overlap_shared_spec : {M : Type 1} → statement M
+overlap_shared_spec = tie.close (tie.spec returns)

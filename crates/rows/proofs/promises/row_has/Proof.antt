@@ -6,5 +6,5 @@ use Rattle.rows.proofs.promises.row_has.Tie as tie
 returns : tie.Need-returns
 returns c = row_has
 
-pub row-has-spec : {M : Type 1} → statement M
-row-has-spec = tie.close (tie.spec returns)
+pub row_has_spec : {M : Type 1} → statement M
+row_has_spec = tie.close (tie.spec returns)

@@ -6,5 +6,5 @@ use Rattle.rows.proofs.Sums.{sum_met}
 returns : tie.Need-returns
 returns c = sum_met
 
-pub sum-met-spec : {M : Type 1} → statement M
-sum-met-spec = tie.close (tie.spec returns)
+pub sum_met_spec : {M : Type 1} → statement M
+sum_met_spec = tie.close (tie.spec returns)

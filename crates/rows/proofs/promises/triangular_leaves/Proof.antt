@@ -6,5 +6,5 @@ use Rattle.rows.proofs.Triangle.{triangular_leaves}
 returns : tie.Need-returns
 returns c = triangular_leaves
 
-pub triangular-leaves-spec : {M : Type 1} → statement M
-triangular-leaves-spec = tie.close (tie.spec returns)
+pub triangular_leaves_spec : {M : Type 1} → statement M
+triangular_leaves_spec = tie.close (tie.spec returns)

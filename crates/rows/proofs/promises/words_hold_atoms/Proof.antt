@@ -6,5 +6,5 @@ use Rattle.rows.proofs.Digits.{words_hold_atoms}
 returns : tie.Need-returns
 returns c = words_hold_atoms
 
-pub words-hold-atoms-spec : {M : Type 1} → statement M
-words-hold-atoms-spec = tie.close (tie.spec returns)
+pub words_hold_atoms_spec : {M : Type 1} → statement M
+words_hold_atoms_spec = tie.close (tie.spec returns)
