@@ -12,135 +12,135 @@ use borrow.Author.Rules.{rules}
 use Rattle.echelon.proofs.eliminate.Statement.{statement}
 use Rattle.echelon.proofs.eliminate.Tie as tie
 
-unfit-requires : tie.Need-unfit-requires
+unfit-requires : tie.Need-unfit-number-requires
 unfit-requires c κs = search rules
 
-same_length : tie.Need-same-length
+same_length : tie.Need-shape_of-rows-then-number-ne0
 same_length c = search rules
 
-same-length-2 : tie.Need-same-length-2
+same-length-2 : tie.Need-shape_of-constants-then-number-ne0
 same-length-2 c = search rules
 
-same-length-3 : tie.Need-same-length-3
+same-length-3 : tie.Need-shape_of-basis-then-number-ne0
 same-length-3 c = search rules
 
-returns : tie.Need-returns
+returns : tie.Need-returns-then-number-ne0
 returns c =
-    let call = c.before in
-    let a = call.before.before.before.before.before.before.before.args in
-    not_fit a.n a.m a.rows.now a.constants.now a.basis.now _ call.unfit.ensures c.if1.true
+    let call = c in
+    let a = call.args in
+    not_fit a.n a.m a.rows.now a.constants.now a.basis.now _ call.unfit-number.ensures c.if-number-ne0.true
 
-width-requires : tie.Need-width-requires
+width-requires : tie.Need-width-width-requires
 width-requires c κs = search rules
 
 -- ---- any of the calls
 
-abbrev start_of : (c : tie.Else1) → tie.Start
-start_of c = c.before.before.before.before.before.before.before.before
+abbrev start_of : (c : tie.Else-number-ne0) → tie.Start
+start_of c = c.before.before.before.before.before
 
 -- what is asked, where k empty entries cover the atoms
-ready : (c : tie.After-width) (k : ℕ) → ((start_of c.before).args.n ≤ 512 → (start_of c.before).args.n ≤ k)
+ready : (c : tie.After-width-width) (k : ℕ) → ((start_of c.before).args.n ≤ 512 → (start_of c.before).args.n ≤ k)
     → let a = (start_of c.before).args in
-    let w = c.width.result in
+    let w = c.width-width.result in
     let empty : List ℕ = replicate k 0 in
     (a.n ≤ 512) × (a.m ≤ 512) × (a.m * w ≤ length a.rows.now) × (a.m ≤ length a.constants.now) × (min a.m a.n ≤ length a.basis.now) × ((r : ℕ) → r < a.m → Clean a.n w r a.rows.now a.constants.now) × ((i : ℕ) → get_or empty i 0 ≡ 0) × (a.n ≤ k) × (a.n ≤ k)
 ready c k covers =
     let a = (start_of c.before).args in
-    let w = c.width.ensures in
-    let fit = fit_here a.n a.m a.rows.now a.constants.now a.basis.now _ c.before.before.unfit.ensures c.before.if1.false in
+    let w = c.width-width.ensures in
+    let fit = fit_here a.n a.m a.rows.now a.constants.now a.basis.now _ c.unfit-number.ensures c.if-number-ne0.false in
     let wide = covers fit.0.atoms in
     (fit.0.atoms, fit.0.rows, rw w fit.0.words, fit.0.constants, fit.1, rw w (fit_clean a.n a.m a.rows.now a.constants.now fit.0), get_d_zeros k, wide, wide)
 
 -- what is left
-done : (c : tie.After-width)
+done : (c : tie.After-width-width)
     → let a = (start_of c.before).args in
-    let w = c.width.result in
+    let w = c.width-width.result in
     written w (eliminated a.n (rows_to a.n w a.rows.now a.constants.now a.m)) a.rows.now a.constants.now a.basis.now ≡ eliminate_of a.n a.m a.rows.now a.constants.now a.basis.now
 done c =
     let a = (start_of c.before).args in
-    rw c.width.ensures (done_is a.n a.m a.rows.now a.constants.now a.basis.now _ c.before.before.unfit.ensures c.before.if1.false)
+    rw c.width-width.ensures (done_is a.n a.m a.rows.now a.constants.now a.basis.now _ c.unfit-number.ensures c.if-number-ne0.false)
 
 -- ---- up to 8 atoms
 
-slice-aggregate-eliminate-rows : tie.Need-slice-aggregate-eliminate-rows
+slice-aggregate-eliminate-rows : tie.Need-slice_bounds-eliminate_rows-end
 slice-aggregate-eliminate-rows c = search rules
 
-slice-aggregate-eliminate-rows-2 : tie.Need-slice-aggregate-eliminate-rows-2
+slice-aggregate-eliminate-rows-2 : tie.Need-slice_bounds-eliminate_rows-end-then-n-le8
 slice-aggregate-eliminate-rows-2 c = search rules
 
-eliminate-rows-requires : tie.Need-eliminate-rows-requires
+eliminate-rows-requires : tie.Need-eliminate_rows-requires
 eliminate-rows-requires c κs =
-    let few = c.before.before.before.before.before in
-    ready few.before 8 (λ h. few.if2.true)
+    let few = c in
+    ready few.before.before.before.before.before.before 8 (λ h. few.if-n-le8.true)
 
-same-length-4 : tie.Need-same-length-4
+same-length-4 : tie.Need-shape_of-rows-then-n-le8
 same-length-4 c = search rules
 
-same-length-5 : tie.Need-same-length-5
+same-length-5 : tie.Need-shape_of-constants-then-n-le8
 same-length-5 c = search rules
 
-same-length-6 : tie.Need-same-length-6
+same-length-6 : tie.Need-shape_of-basis-then-n-le8
 same-length-6 c = search rules
 
-returns-2 : tie.Need-returns-2
+returns-2 : tie.Need-returns-then-n-le8
 returns-2 c =
-    let call = c.before.before.before.before.before.before.before.before in
-    call.eliminate-rows.ensures ∙ done call.before.before.before.before.before.before.before
+    let call = c in
+    call.eliminate_rows.ensures ∙ done call.before.before.before.before.before.before.before.before.before.before.before.before.before.before.before
 
 -- ---- up to 64 atoms
 
-slice-aggregate-eliminate-rows-3 : tie.Need-slice-aggregate-eliminate-rows-3
+slice-aggregate-eliminate-rows-3 : tie.Need-slice_bounds-eliminate_rows-end-then-n-le64
 slice-aggregate-eliminate-rows-3 c = search rules
 
-slice-aggregate-eliminate-rows-4 : tie.Need-slice-aggregate-eliminate-rows-4
+slice-aggregate-eliminate-rows-4 : tie.Need-slice_bounds-eliminate_rows-end-then-n-le64-2
 slice-aggregate-eliminate-rows-4 c = search rules
 
-eliminate-rows-requires-2 : tie.Need-eliminate-rows-requires-2
+eliminate-rows-requires-2 : tie.Need-eliminate_rows-requires-then-n-le64
 eliminate-rows-requires-2 c κs =
-    let some = c.before.before.before.before.before in
-    ready some.before.before 64 (λ h. some.if3.true)
+    let some = c in
+    ready some.before.before.before.before.before.before.before 64 (λ h. some.if-n-le64.true)
 
-same-length-7 : tie.Need-same-length-7
+same-length-7 : tie.Need-shape_of-rows-then-n-le64
 same-length-7 c = search rules
 
-same-length-8 : tie.Need-same-length-8
+same-length-8 : tie.Need-shape_of-constants-then-n-le64
 same-length-8 c = search rules
 
-same-length-9 : tie.Need-same-length-9
+same-length-9 : tie.Need-shape_of-basis-then-n-le64
 same-length-9 c = search rules
 
-returns-3 : tie.Need-returns-3
+returns-3 : tie.Need-returns-then-n-le64
 returns-3 c =
-    let call = c.before.before.before.before.before.before.before.before in
-    call.eliminate-rows2.ensures ∙ done call.before.before.before.before.before.before.before.before
+    let call = c in
+    call.eliminate_rows-then-n-le64.ensures ∙ done call.before.before.before.before.before.before.before.before.before.before.before.before.before.before.before.before
 
 -- ---- more atoms
 
-slice-aggregate-eliminate-rows-5 : tie.Need-slice-aggregate-eliminate-rows-5
+slice-aggregate-eliminate-rows-5 : tie.Need-slice_bounds-eliminate_rows-end-2
 slice-aggregate-eliminate-rows-5 c = search rules
 
-slice-aggregate-eliminate-rows-6 : tie.Need-slice-aggregate-eliminate-rows-6
+slice-aggregate-eliminate-rows-6 : tie.Need-slice_bounds-eliminate_rows-end-3
 slice-aggregate-eliminate-rows-6 c = search rules
 
-eliminate-rows-requires-3 : tie.Need-eliminate-rows-requires-3
+eliminate-rows-requires-3 : tie.Need-eliminate_rows-requires-2
 eliminate-rows-requires-3 c κs = ready c.before.before.before.before.before.before.before 512 (λ h. h)
 
-same-length-10 : tie.Need-same-length-10
+same-length-10 : tie.Need-shape_of-rows
 same-length-10 c = search rules
 
-same-length-11 : tie.Need-same-length-11
+same-length-11 : tie.Need-shape_of-constants
 same-length-11 c = search rules
 
-same-length-12 : tie.Need-same-length-12
+same-length-12 : tie.Need-shape_of-basis
 same-length-12 c = search rules
 
-returns-4 : tie.Need-returns-4
+returns-4 : tie.Need-returns
 returns-4 c =
-    let call = c.before.before.before.before.before.before.before.before in
-    call.eliminate-rows3.ensures ∙ done call.before.before.before.before.before.before.before.before
+    let call = c in
+    call.eliminate_rows-2.ensures ∙ done call.before.before.before.before.before.before.before.before.before.before.before.before.before.before.before.before
 
-pub eliminate-spec : {M : Type 1} → statement M
-eliminate-spec =
+pub eliminate_spec : {M : Type 1} → statement M
+eliminate_spec =
     tie.close
     (tie.spec
     unfit-requires

@@ -10,47 +10,47 @@ use borrow.Author.Rules.{rules}
 use Rattle.fit.proofs.any_strays.Statement.{statement}
 use Rattle.fit.proofs.any_strays.Tie as tie
 
-abbrev invariant-loop : tie.invariant-loop
+abbrev invariant-loop : tie.invariant-loop-r
 invariant-loop rows constants n width m stray₀ r₀ stray r = (r ≤ m) × (stray ≡ strays n width rows constants r)
 
-abbrev decreases-loop : tie.decreases-loop
+abbrev decreases-loop : tie.decreases-loop-r
 decreases-loop rows constants n width m stray₀ r₀ stray r = m - r
 
-loop-holds : tie.Need-loop-init invariant-loop decreases-loop
+loop-holds : tie.Need-loop-r-init invariant-loop decreases-loop
 loop-holds c = (search rules, sym (strays_start _ _ _ _))
 
-row-strays-requires : tie.Need-row-strays-requires invariant-loop decreases-loop
+row-strays-requires : tie.Need-row_strays-requires invariant-loop decreases-loop
 row-strays-requires c κs =
-    let start = c.before.before.before.before in
-    (start.requires.0, omega (arith, start.requires.1, earlier start.args.width start.args.m c.before.loop.r c.loop-test.true))
+    let start = c in
+    (start.requires.0, omega (arith, start.requires.1, earlier start.args.width start.args.m c.loop-r.r c.loop-r-test.true))
 
-shared-slice-read-stray : tie.Need-shared-slice-read-stray invariant-loop decreases-loop
+shared-slice-read-stray : tie.Need-bounds-constants-r invariant-loop decreases-loop
 shared-slice-read-stray c = search rules
 
-add_r : tie.Need-overflow-add-r invariant-loop decreases-loop
+add_r : tie.Need-overflow_add-r invariant-loop decreases-loop
 add_r c = search rules
 
-loop-less : tie.Need-loop-smaller invariant-loop decreases-loop
+loop-less : tie.Need-loop-r-smaller invariant-loop decreases-loop
 loop-less c = search rules
 
-loop-again : tie.Need-loop-preserved invariant-loop decreases-loop
+loop-again : tie.Need-loop-r-preserved invariant-loop decreases-loop
 loop-again c =
-    let call = c.before in
-    let at = call.before.before in
-    let a = at.before.before.before.args in (
+    let call = c in
+    let at = call in
+    let a = at.args in (
       omega arith,
-      ap₂ ◌||◌ at.loop.invariant.1 (ap₂ ◌||◌ call.row-strays.ensures refl) ∙ sym (strays_step a.n a.width a.rows.now a.constants.now at.loop.r),
+      ap₂ ◌||◌ at.loop-r.invariant.1 (ap₂ ◌||◌ call.row_strays.ensures refl) ∙ sym (strays_step a.n a.width a.rows.now a.constants.now at.loop-r.r),
     )
 
 returns : tie.Need-returns invariant-loop decreases-loop
 returns c =
-    let at = c.before in
-    let a = at.before.before.before.args in
-    let all : at.loop.r ≡ a.m = omega (arith, at.loop.invariant.0) in
-    at.loop.invariant.1 ∙ ap (strays a.n a.width a.rows.now a.constants.now) all
+    let at = c in
+    let a = at.args in
+    let all : at.loop-r.r ≡ a.m = omega (arith, at.loop-r.invariant.0) in
+    at.loop-r.invariant.1 ∙ ap (strays a.n a.width a.rows.now a.constants.now) all
 
-pub any-strays-spec : {M : Type 1} → statement M
-any-strays-spec =
+pub any_strays_spec : {M : Type 1} → statement M
+any_strays_spec =
     tie.close
     (tie.spec
     invariant-loop

@@ -10,41 +10,41 @@ use borrow.Author.Rules.{rules}
 use Rattle.fit.proofs.row_strays.Statement.{statement}
 use Rattle.fit.proofs.row_strays.Tie as tie
 
-returns : tie.Need-returns
+returns : tie.Need-returns-then-used-eq0
 returns c =
-    let a = c.before.args in
-    sym (none_above a.width a.rows.now a.number.0 c.before.requires.1 a.n (omega (arith, c.before.requires.0)))
+    let a = c.args in
+    sym (none_above a.width a.rows.now a.number.0 c.requires.1 a.n (omega (arith, c.requires.0)))
 
-mul-last : tie.Need-overflow-mul-last
+mul-last : tie.Need-overflow_mul-last
 mul-last c = search rules
 
-add-last : tie.Need-overflow-add-last
+add-last : tie.Need-overflow_add-last
 add-last c = search rules
 
-sub-last : tie.Need-overflow-sub-last
+sub-last : tie.Need-overflow_sub-last
 sub-last c = search rules
 
-mul-result : tie.Need-overflow-mul-result
+mul-result : tie.Need-offset_bounds-rows-last
 mul-result c = search rules
 
-shared-slice-read-result : tie.Need-shared-slice-read-result
+shared-slice-read-result : tie.Need-bounds-rows-last
 shared-slice-read-result c = search rules
 
-shr-result : tie.Need-overflow-shr-result
+shr-result : tie.Need-overflow_shr-result
 shr-result c = search rules
 
-returns-2 : tie.Need-returns-2
+returns-2 : tie.Need-returns
 returns-2 c =
-    let start = c.before.before.before in
+    let start = c in
     let a = start.args in
     let at = a.number.0 * a.width in
     let place : at + a.width - 1 ≡ at + a.n / 64 = omega (arith, start.requires.0) in
     ap (λ (i : ℕ). not (eqb (get_or a.rows.now i 0 / 2 ^ (a.n % 64)) 0)) place
     ∙ sym (last_above a.width a.rows.now a.number.0 start.requires.1 a.n (a.n / 64) (a.n % 64) (omega arith) (omega (arith, start.requires.0))
-    (c.shared-slice-known.given (at + a.n / 64)).fits)
+    (c.shared_slice_known-1.given (at + a.n / 64)).fits)
 
-pub row-strays-spec : {M : Type 1} → statement M
-row-strays-spec =
+pub row_strays_spec : {M : Type 1} → statement M
+row_strays_spec =
     tie.close
     (tie.spec
     returns

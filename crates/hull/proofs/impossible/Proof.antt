@@ -6,12 +6,12 @@ use borrow.Author.Rules.{rules}
 use Rattle.hull.proofs.impossible.Statement.{statement}
 use Rattle.hull.proofs.impossible.Tie as tie
 
-array-set-from-equations : tie.Need-array-set-from-equations
+array-set-from-equations : tie.Need-bounds-equations-0
 array-set-from-equations c = search rules
 
 returns : tie.Need-returns
 unfolding hull_from mask_of
 returns c = refl
 
-pub impossible-spec : {M : Type 1} → statement M
-impossible-spec = tie.close (tie.spec array-set-from-equations returns)
+pub impossible_spec : {M : Type 1} → statement M
+impossible_spec = tie.close (tie.spec array-set-from-equations returns)

@@ -10,19 +10,19 @@ use borrow.Author.Rules.{rules}
 use Rattle.hull.proofs.is_forbidden.Statement.{statement}
 use Rattle.hull.proofs.is_forbidden.Tie as tie
 
-mul-result : tie.Need-overflow-mul-result
+mul-result : tie.Need-offset_bounds-forbidden-pattern
 mul-result c = search rules
 
-shared-slice-read-result : tie.Need-shared-slice-read-result
+shared-slice-read-result : tie.Need-bounds-forbidden-pattern
 shared-slice-read-result c = search rules
 
-shl-result : tie.Need-overflow-shl-result
+shl-result : tie.Need-overflow_shl-result
 shl-result c = search rules
 
 returns : tie.Need-returns
 returns c =
-    let a = c.before.args in
+    let a = c.args in
     ap (λ (n : ℕ). not (eqb (bit_and (get_or a.forbidden.now (a.pattern / 64) 0) n) 0)) (one_bit a.pattern) ∙ has_word a.forbidden.now a.pattern
 
-pub is-forbidden-spec : {M : Type 1} → statement M
-is-forbidden-spec = tie.close (tie.spec mul-result shared-slice-read-result shl-result returns)
+pub is_forbidden_spec : {M : Type 1} → statement M
+is_forbidden_spec = tie.close (tie.spec mul-result shared-slice-read-result shl-result returns)

@@ -11,68 +11,68 @@ use borrow.Author.Rules.{rules}
 use Rattle.hull.proofs.list.Statement.{statement}
 use Rattle.hull.proofs.list.Tie as tie
 
-abbrev invariant-loop : tie.invariant-loop
+abbrev invariant-loop : tie.invariant-loop-free
 invariant-loop s k pivots anchor equations₀ count₀ free₀ equations count free = (free ≤ k) × Filed anchor pivots k free count equations × (count ≤ free)
 
-abbrev decreases-loop : tie.decreases-loop
+abbrev decreases-loop : tie.decreases-loop-free
 decreases-loop s k pivots anchor equations₀ count₀ free₀ equations count free = k - free
 
-loop-holds : tie.Need-loop-init invariant-loop decreases-loop
+loop-holds : tie.Need-loop-free-init invariant-loop decreases-loop
 loop-holds c = (omega arith, filed_start _ _ _, omega arith)
 
-array-read-if1 : tie.Need-array-read-if1 invariant-loop decreases-loop
+array-read-if1 : tie.Need-bounds-pivots-free invariant-loop decreases-loop
 array-read-if1 c = search rules
 
-equation-requires : tie.Need-equation-requires invariant-loop decreases-loop
+equation-requires : tie.Need-equation-coefficients-requires invariant-loop decreases-loop
 equation-requires c κs = search rules
 
 parity-requires : tie.Need-parity-requires invariant-loop decreases-loop
 parity-requires c κs = search rules
 
-mul-equations : tie.Need-overflow-mul-equations invariant-loop decreases-loop
+mul-equations : tie.Need-offset_bounds-equations-count invariant-loop decreases-loop
 mul-equations c = omega arith
 
-array-set-from-equations : tie.Need-array-set-from-equations invariant-loop decreases-loop
+array-set-from-equations : tie.Need-bounds-equations-count invariant-loop decreases-loop
 array-set-from-equations c = omega arith
 
-add-count : tie.Need-overflow-add-count invariant-loop decreases-loop
+add-count : tie.Need-overflow_add-count invariant-loop decreases-loop
 add-count c = omega arith
 
-add_free : tie.Need-overflow-add-free invariant-loop decreases-loop
+add_free : tie.Need-overflow_add-free invariant-loop decreases-loop
 add_free c = search rules
 
-loop-less : tie.Need-loop-smaller invariant-loop decreases-loop
+loop-less : tie.Need-loop-free-smaller invariant-loop decreases-loop
 loop-less c = search rules
 
-loop-again : tie.Need-loop-preserved invariant-loop decreases-loop
+loop-again : tie.Need-loop-free-preserved invariant-loop decreases-loop
 loop-again c =
-    let at = c.before.before in
-    let a = at.before.before.args in
-    let f = at.loop.invariant.1 in
-    let here = c.before.loop-test.true in
-    let room : at.loop.count < limit = omega arith in (
+    let at = c in
+    let a = at.args in
+    let f = at.loop-free.invariant.1 in
+    let here = c.loop-free-test.true in
+    let room : at.loop-free.count < limit = omega arith in (
       omega arith,
       ⊎_elim
-          (λ w. filed_add a.s.anchor a.s.pivots a.k _ _ _ f here room w.0.taken w.2.ensures w.3.ensures w.4 w.5)
-          (λ w. filed_skip a.s.anchor a.s.pivots a.k _ _ _ f here w.0.left w.1 w.2)
-          c.if1.branch,
-      ⊎_elim (λ w. omega (arith, w.5)) (λ w. omega (arith, w.2)) c.if1.branch,
+          (λ w. filed_add a.s.anchor a.s.pivots a.k _ _ _ f here room w.if-pivots-free-eq0.true w.equation-coefficients.ensures w.parity.ensures w.equations-is w.count-is)
+          (λ w. filed_skip a.s.anchor a.s.pivots a.k _ _ _ f here w.if-pivots-free-eq0.false w.equations-is w.count-is)
+          c.if-pivots-free-eq0.branch-raw,
+      ⊎_elim (λ w. omega (arith, w.count-is)) (λ w. omega (arith, w.count-is)) c.if-pivots-free-eq0.branch-raw,
     )
 
-shl-t23 : tie.Need-overflow-shl-t23 invariant-loop decreases-loop
+shl-t23 : tie.Need-overflow_shl-result invariant-loop decreases-loop
 shl-t23 c = omega arith
 
 returns : tie.Need-returns invariant-loop decreases-loop
 returns c =
-    let at = c.before.before.before in
-    let s = at.before.before.args.s in
-    let all = filed_all s.anchor s.pivots at.before.before.args.k _ _ _ at.loop.invariant.1 c.before.before.loop-test.false in
+    let at = c in
+    let s = at.args.s in
+    let all = filed_all s.anchor s.pivots at.args.k _ _ _ at.loop-free.invariant.1 c.loop-free-test.false in
     let small : s.rank < 64 = omega arith in
-    ap (λ n. record { equations = at.loop.equations; count = at.loop.count; exact = eqb s.allowed n }) (one_shl 64 s.rank small)
+    ap (λ n. record { equations = at.loop-free.equations; count = at.loop-free.count; exact = eqb s.allowed n }) (one_shl 64 s.rank small)
     ∙ ap₂ (λ es n. record { equations = es; count = n; exact = eqb s.allowed (2 ^ s.rank) }) all.0 all.1
 
-pub list-spec : {M : Type 1} → statement M
-list-spec =
+pub list_spec : {M : Type 1} → statement M
+list_spec =
     tie.close
     (tie.spec
     invariant-loop

@@ -10,30 +10,30 @@ use borrow.Author.Rules.{rules}
 use Rattle.hull.proofs.see.Statement.{statement}
 use Rattle.hull.proofs.see.Tie as tie
 
-returns : tie.Need-returns
+returns : tie.Need-returns-then-s-eq0
 unfolding seen
-returns c = simp (eq-eqb _ _ c.if1.true)
+returns c = simp (eq-eqb _ _ c.if-s-eq0.true)
 
-enter-requires : tie.Need-enter-requires
+enter-requires : tie.Need-enter-came-requires
 enter-requires c κs = search rules
 
-add-t11 : tie.Need-overflow-add-t11
+add-t11 : tie.Need-overflow_add-result
 add-t11 c =
-    let called = c.before in
-    let a = called.before.before.before.before.before.before.args in
-    omega (arith, called.enter.ensures.1, came_le a.k 0 a.s.pivots (bit_xor a.s.anchor a.pattern))
+    let called = c in
+    let a = called.args in
+    omega (arith, called.enter-came.ensures.1, came_le a.k 0 a.s.pivots (bit_xor a.s.anchor a.pattern))
 
-add-t12 : tie.Need-overflow-add-t12
+add-t12 : tie.Need-overflow_add-result-2
 add-t12 c = search rules
 
-returns-2 : tie.Need-returns-2
+returns-2 : tie.Need-returns
 unfolding seen
 returns-2 c =
-    let called = c.before.before in
-    let none = called.before.before.before in
-    let s = none.before.before.before.args.s in
-    simp (ne_eqb _ _ none.if1.false)
-    (ap₂ (λ ps n. record { pivots = ps; rank = s.rank + n; allowed = s.allowed + 1; anchor = s.anchor }) called.enter.ensures.0 called.enter.ensures.1)
+    let called = c in
+    let none = called in
+    let s = none.args.s in
+    simp (ne_eqb _ _ none.if-s-eq0.false)
+    (ap₂ (λ ps n. record { pivots = ps; rank = s.rank + n; allowed = s.allowed + 1; anchor = s.anchor }) called.enter-came.ensures.0 called.enter-came.ensures.1)
 
-pub see-spec : {M : Type 1} → statement M
-see-spec = tie.close (tie.spec returns enter-requires add-t11 add-t12 returns-2)
+pub see_spec : {M : Type 1} → statement M
+see_spec = tie.close (tie.spec returns enter-requires add-t11 add-t12 returns-2)

@@ -10,43 +10,43 @@ use borrow.Author.Rules.{rules}
 use Rattle.index.proofs.any_overranks.Statement.{statement}
 use Rattle.index.proofs.any_overranks.Tie as tie
 
-abbrev invariant-loop : tie.invariant-loop
+abbrev invariant-loop : tie.invariant-loop-a
 invariant-loop index rank width n over₀ a₀ over a = (a ≤ n) × (over ≡ over_rank rank width index a)
 
-abbrev decreases-loop : tie.decreases-loop
+abbrev decreases-loop : tie.decreases-loop-a
 decreases-loop index rank width n over₀ a₀ over a = n - a
 
-loop-holds : tie.Need-loop-init invariant-loop decreases-loop
+loop-holds : tie.Need-loop-a-init invariant-loop decreases-loop
 loop-holds c = (search rules, sym (over_start _ _ _))
 
-overranks-requires : tie.Need-overranks-requires invariant-loop decreases-loop
+overranks-requires : tie.Need-overranks-over-requires invariant-loop decreases-loop
 overranks-requires c κs =
-    let start = c.before.before.before in
-    (start.requires.0, omega (arith, start.requires.1, earlier start.args.width start.args.n c.before.loop.a c.loop-test.true))
+    let start = c in
+    (start.requires.0, omega (arith, start.requires.1, earlier start.args.width start.args.n c.loop-a.a c.loop-a-test.true))
 
-add_a : tie.Need-overflow-add-a invariant-loop decreases-loop
+add_a : tie.Need-overflow_add-a invariant-loop decreases-loop
 add_a c = search rules
 
-loop-less : tie.Need-loop-smaller invariant-loop decreases-loop
+loop-less : tie.Need-loop-a-smaller invariant-loop decreases-loop
 loop-less c = search rules
 
-loop-again : tie.Need-loop-preserved invariant-loop decreases-loop
+loop-again : tie.Need-loop-a-preserved invariant-loop decreases-loop
 loop-again c =
-    let at = c.before.before in
-    let a = at.before.before.args in (
+    let at = c in
+    let a = at.args in (
       omega arith,
-      ap₂ ◌||◌ at.loop.invariant.1 c.overranks.ensures ∙ sym (over_step a.rank a.width a.index.now at.loop.a),
+      ap₂ ◌||◌ at.loop-a.invariant.1 c.overranks-over.ensures ∙ sym (over_step a.rank a.width a.index.now at.loop-a.a),
     )
 
 returns : tie.Need-returns invariant-loop decreases-loop
 returns c =
-    let at = c.before in
-    let a = at.before.before.args in
-    let all : at.loop.a ≡ a.n = omega (arith, at.loop.invariant.0) in
-    at.loop.invariant.1 ∙ ap (over_rank a.rank a.width a.index.now) all
+    let at = c in
+    let a = at.args in
+    let all : at.loop-a.a ≡ a.n = omega (arith, at.loop-a.invariant.0) in
+    at.loop-a.invariant.1 ∙ ap (over_rank a.rank a.width a.index.now) all
 
-pub any-overranks-spec : {M : Type 1} → statement M
-any-overranks-spec =
+pub any_overranks_spec : {M : Type 1} → statement M
+any_overranks_spec =
     tie.close
     (tie.spec
     invariant-loop

@@ -12,73 +12,73 @@ use borrow.Author.Rules.{rules}
 use Rattle.region.proofs.meet.Statement.{statement}
 use Rattle.region.proofs.meet.Tie as tie
 
-abbrev invariant-loop : tie.invariant-loop
+abbrev invariant-loop : tie.invariant-loop-i
 invariant-loop left right first second i₀ i = (i ≤ 8) × From 64 (common left right) i
 
-abbrev decreases-loop : tie.decreases-loop
+abbrev decreases-loop : tie.decreases-loop-i
 decreases-loop left right first second i₀ i = 8 - i
 
 -- both have eight words
-wide : (c : tie.After-second invariant-loop decreases-loop)
-    → let a = c.before.before.args in
+wide : (c : tie.After-second-1 invariant-loop decreases-loop)
+    → let a = c.args in
     (length a.left.now ≡ 8) × (length a.right.now ≡ 8)
-wide c = (c.before.first.given.0, c.second.given.0)
+wide c = (c.first-1.given.0, c.second-1.given.0)
 
-same : (c : tie.After-second invariant-loop decreases-loop) → length c.before.before.args.left.now ≤ length c.before.before.args.right.now
+same : (c : tie.After-second-1 invariant-loop decreases-loop) → length c.args.left.now ≤ length c.args.right.now
 same c = omega (arith, wide c)
 
-loop-holds : tie.Need-loop-init invariant-loop decreases-loop
+loop-holds : tie.Need-loop-i-init invariant-loop decreases-loop
 loop-holds c = (omega arith, sym (mul-one _))
 
-mul-if1 : tie.Need-overflow-mul-if1 invariant-loop decreases-loop
+mul-if1 : tie.Need-offset_bounds-first-i invariant-loop decreases-loop
 mul-if1 c = search rules
 
-shared-slice-read-if1 : tie.Need-shared-slice-read-if1 invariant-loop decreases-loop
+shared-slice-read-if1 : tie.Need-bounds-first-i invariant-loop decreases-loop
 shared-slice-read-if1 c = search rules
 
-mul-if1-2 : tie.Need-overflow-mul-if1-2 invariant-loop decreases-loop
+mul-if1-2 : tie.Need-offset_bounds-second-i invariant-loop decreases-loop
 mul-if1-2 c = search rules
 
-shared-slice-read-if1-2 : tie.Need-shared-slice-read-if1-2 invariant-loop decreases-loop
+shared-slice-read-if1-2 : tie.Need-bounds-second-i invariant-loop decreases-loop
 shared-slice-read-if1-2 c = search rules
 
-returns : tie.Need-returns invariant-loop decreases-loop
+returns : tie.Need-returns-then-first-i-ne0 invariant-loop decreases-loop
 returns c =
-    let at = c.before.before.before.before in
-    let second = at.before in
-    let a = second.before.before.args in (
-      wide second,
+    let at = c in
+    let second = at in
+    let a = second.args in (
+      wide second.before.before.before.before.before,
       sym (ap not (ne_eqb _ 0
-          (common_some 64 a.left.now a.right.now (same second) at.loop.i at.loop.invariant.1 (omega (arith, wide second)) (omega arith)
-          (c.before.before.shared-slice-known.given at.loop.i).fits))),
+          (common_some 64 a.left.now a.right.now (same second.before.before.before.before.before) at.loop-i.i at.loop-i.invariant.1 (omega (arith, wide second.before.before.before.before.before)) (omega arith)
+          (c.shared_slice_known-1.given at.loop-i.i).fits))),
     )
 
-add-i : tie.Need-overflow-add-i invariant-loop decreases-loop
+add-i : tie.Need-overflow_add-i invariant-loop decreases-loop
 add-i c = search rules
 
-loop-less : tie.Need-loop-smaller invariant-loop decreases-loop
+loop-less : tie.Need-loop-i-smaller invariant-loop decreases-loop
 loop-less c = search rules
 
-loop-again : tie.Need-loop-preserved invariant-loop decreases-loop
+loop-again : tie.Need-loop-i-preserved invariant-loop decreases-loop
 loop-again c =
-    let at = c.before.before.before.before in
-    let second = at.before in
-    let a = second.before.before.args in (
+    let at = c in
+    let second = at in
+    let a = second.args in (
       omega arith,
-      common_next 64 a.left.now a.right.now (same second) at.loop.i at.loop.invariant.1 (omega (arith, wide second)) c.if1.false,
+      common_next 64 a.left.now a.right.now (same second.before.before.before.before.before) at.loop-i.i at.loop-i.invariant.1 (omega (arith, wide second.before.before.before.before.before)) c.if-first-i-ne0.false,
     )
 
-returns-2 : tie.Need-returns-2 invariant-loop decreases-loop
+returns-2 : tie.Need-returns invariant-loop decreases-loop
 returns-2 c =
-    let at = c.before in
-    let second = at.before in
-    let a = second.before.before.args in (
-      wide second,
-      sym (ap not (eq-eqb _ 0 (common_empty 64 a.left.now a.right.now (same second) at.loop.i at.loop.invariant.1 (omega (arith, wide second))))),
+    let at = c in
+    let second = at in
+    let a = second.args in (
+      wide second.before.before,
+      sym (ap not (eq-eqb _ 0 (common_empty 64 a.left.now a.right.now (same second.before.before) at.loop-i.i at.loop-i.invariant.1 (omega (arith, wide second.before.before))))),
     )
 
-pub meet-spec : {M : Type 1} → statement M
-meet-spec =
+pub meet_spec : {M : Type 1} → statement M
+meet_spec =
     tie.close
     (tie.spec
     invariant-loop

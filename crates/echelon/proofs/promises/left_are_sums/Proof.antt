@@ -6,5 +6,5 @@ use Rattle.echelon.proofs.Sums.{left_are_sums}
 returns : tie.Need-returns
 returns c = left_are_sums
 
-pub left-are-sums-spec : {M : Type 1} → statement M
-left-are-sums-spec = tie.close (tie.spec returns)
+pub left_are_sums_spec : {M : Type 1} → statement M
+left_are_sums_spec = tie.close (tie.spec returns)

@@ -6,5 +6,5 @@ use Rattle.echelon.proofs.Lows.{lowest_rises}
 returns : tie.Need-returns
 returns c = lowest_rises
 
-pub lowest-rises-spec : {M : Type 1} → statement M
-lowest-rises-spec = tie.close (tie.spec returns)
+pub lowest_rises_spec : {M : Type 1} → statement M
+lowest_rises_spec = tie.close (tie.spec returns)

@@ -6,5 +6,5 @@ use Rattle.echelon.proofs.Basis.{pivot_found}
 returns : tie.Need-returns
 returns c = pivot_found
 
-pub pivot-found-spec : {M : Type 1} → statement M
-pivot-found-spec = tie.close (tie.spec returns)
+pub pivot_found_spec : {M : Type 1} → statement M
+pivot_found_spec = tie.close (tie.spec returns)

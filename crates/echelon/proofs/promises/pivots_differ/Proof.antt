@@ -6,5 +6,5 @@ use Rattle.echelon.proofs.Basis.{pivots_differ}
 returns : tie.Need-returns
 returns c = pivots_differ
 
-pub pivots-differ-spec : {M : Type 1} → statement M
-pivots-differ-spec = tie.close (tie.spec returns)
+pub pivots_differ_spec : {M : Type 1} → statement M
+pivots_differ_spec = tie.close (tie.spec returns)

@@ -6,5 +6,5 @@ use Rattle.echelon.proofs.Reducing.{reduction_ends}
 returns : tie.Need-returns
 returns c = reduction_ends
 
-pub reduction-ends-spec : {M : Type 1} → statement M
-reduction-ends-spec = tie.close (tie.spec returns)
+pub reduction_ends_spec : {M : Type 1} → statement M
+reduction_ends_spec = tie.close (tie.spec returns)

@@ -6,5 +6,5 @@ use Rattle.echelon.proofs.Solutions.{solutions_kept}
 returns : tie.Need-returns
 returns c = solutions_kept
 
-pub solutions-kept-spec : {M : Type 1} → statement M
-solutions-kept-spec = tie.close (tie.spec returns)
+pub solutions_kept_spec : {M : Type 1} → statement M
+solutions_kept_spec = tie.close (tie.spec returns)

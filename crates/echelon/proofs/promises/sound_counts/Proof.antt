@@ -6,5 +6,5 @@ use Rattle.echelon.proofs.Solutions.{sound_counts}
 returns : tie.Need-returns
 returns c = sound_counts
 
-pub sound-counts-spec : {M : Type 1} → statement M
-sound-counts-spec = tie.close (tie.spec returns)
+pub sound_counts_spec : {M : Type 1} → statement M
+sound_counts_spec = tie.close (tie.spec returns)

@@ -8,35 +8,35 @@ use Rattle.echelon.specs.Steps.{head_of}
 use Rattle.echelon.proofs.reduce.head_of.Statement.{statement}
 use Rattle.echelon.proofs.reduce.head_of.Tie as tie
 
-returns : tie.Need-returns
+returns : tie.Need-returns-then-word-eq0
 unfolding head_of
-returns c = simp (eq-eqb _ _ c.if1.true)
+returns c = simp (eq-eqb _ _ c.if-word-eq0.true)
 
 -- a word that is not empty has its lowest atom in the directory
-room : (c : tie.Else1) → c.before.args.i * 64 + count_trailing_zeros 64 c.before.args.word < length c.before.args.heads.now
-room c = c.before.requires (omega (arith, c.if1.false))
+room : (c : tie.Else-word-eq0) → c.args.i * 64 + count_trailing_zeros 64 c.args.word < length c.args.heads.now
+room c = c.requires (omega (arith, c.if-word-eq0.false))
 
-mul-result : tie.Need-overflow-mul-result
+mul-result : tie.Need-overflow_mul-result
 mul-result c = omega (arith, room c)
 
-cast-result : tie.Need-overflow-cast-result
-cast-result c = omega (arith, trailing_le 64 c.before.args.word)
+cast-result : tie.Need-overflow_cast-result
+cast-result c = omega (arith, trailing_le 64 c.args.word)
 
-add-result : tie.Need-overflow-add-result
+add-result : tie.Need-overflow_add-result
 add-result c = omega (arith, room c)
 
-mul-result-2 : tie.Need-overflow-mul-result-2
+mul-result-2 : tie.Need-offset_bounds-heads-i
 mul-result-2 c = omega (arith, room c)
 
-shared-slice-read-result : tie.Need-shared-slice-read-result
+shared-slice-read-result : tie.Need-bounds-heads-i
 shared-slice-read-result c = omega (arith, room c.before)
 
-returns-2 : tie.Need-returns-2
+returns-2 : tie.Need-returns
 unfolding head_of
-returns-2 c = simp (ne_eqb _ _ c.before.if1.false)
+returns-2 c = simp (ne_eqb _ _ c.if-word-eq0.false)
 
-pub head-of-spec : {M : Type 1} → statement M
-head-of-spec =
+pub head_of_spec : {M : Type 1} → statement M
+head_of_spec =
     tie.close
     (tie.spec
     returns

@@ -10,137 +10,137 @@ use borrow.Author.Rules.{rules}
 use Rattle.echelon.proofs.reduce.reduce_from.Statement.{statement}
 use Rattle.echelon.proofs.reduce.reduce_from.Tie as tie
 
-abbrev invariant-loop : tie.invariant-loop
+abbrev invariant-loop : tie.invariant-loop-i
 invariant-loop rows₀ constants₀ n width number first heads sources i₀ additions₀ rows constants i additions =
     (i ≤ width) × Reduced n width number.0 i rows₀ constants₀ rows constants additions
 
-abbrev decreases-loop : tie.decreases-loop
+abbrev decreases-loop : tie.decreases-loop-i
 decreases-loop rows₀ constants₀ n width number first heads sources i₀ additions₀ rows constants i additions = width - i
 
-loop-holds : tie.Need-loop-init invariant-loop decreases-loop
+loop-holds : tie.Need-loop-i-init invariant-loop decreases-loop
 loop-holds c =
-    let start = c.before.before.before.before in
+    let start = c in
     let a = start.args in
     (start.requires.0, reduced_start a.n a.width a.number.0 a.rows.now a.constants.now a.first start.requires.1 start.requires.2)
 
-abbrev start_of : (c : tie.At-loop invariant-loop decreases-loop) → tie.Start invariant-loop decreases-loop
+abbrev start_of : (c : tie.At-loop-i invariant-loop decreases-loop) → tie.Start invariant-loop decreases-loop
 start_of c = c.before.before.before.before.before
 
-reduce-word-requires : tie.Need-reduce-word-requires invariant-loop decreases-loop
+reduce-word-requires : tie.Need-reduce_word-left-requires invariant-loop decreases-loop
 reduce-word-requires c κs =
-    let turn = c.before.before in
-    let at = turn.before in
-    let a = (start_of at).args in
-    let l = at.loop in
+    let turn = c in
+    let at = turn in
+    let a = (start_of at.before.before.before).args in
+    let l = at.loop-i in
     let so = l.invariant.1 in (
-      turn.loop-test.true,
+      turn.loop-i-test.true,
       so.clean,
       so.below,
-      directory_kept a.n a.width a.number.0 a.rows.now a.constants.now l.rows l.constants a.heads.now a.sources.now so.only (start_of at).requires.3,
+      directory_kept a.n a.width a.number.0 a.rows.now a.constants.now l.rows l.constants a.heads.now a.sources.now so.only (start_of at.before.before.before).requires.3,
     )
 
 -- what a turn leaves
-after : (c : tie.After-reduce-word invariant-loop decreases-loop)
-    → let at = c.before.before.before.before in
-    let a = (start_of at).args in
-    Reduced a.n a.width a.number.0 at.loop.i a.rows.now a.constants.now c.reduce-word.new.0 c.reduce-word.new.1.0 (at.loop.additions + c.reduce-word.result.additions)
+after : (c : tie.After-reduce_word-left invariant-loop decreases-loop)
+    → let at = c in
+    let a = (start_of at.before.before.before.before).args in
+    Reduced a.n a.width a.number.0 at.loop-i.i a.rows.now a.constants.now c.reduce_word-left.new.rows c.reduce_word-left.new.constants (at.loop-i.additions + c.reduce_word-left.result.additions)
 after c =
-    let at = c.before.before.before.before in
-    let a = (start_of at).args in
-    let l = at.loop in
-    reduced_join a.n a.width a.number.0 a.rows.now a.constants.now l.i l.rows l.constants l.additions l.invariant.1 _ _ _ c.reduce-word.ensures.0
+    let at = c in
+    let a = (start_of at.before.before.before.before).args in
+    let l = at.loop-i in
+    reduced_join a.n a.width a.number.0 a.rows.now a.constants.now l.i l.rows l.constants l.additions l.invariant.1 _ _ _ c.reduce_word-left.ensures.0
 
-few : (c : tie.After-reduce-word invariant-loop decreases-loop)
-    → let at = c.before.before.before.before in
-    at.loop.additions + c.reduce-word.result.additions ≤ (start_of at).args.n
+few : (c : tie.After-reduce_word-left invariant-loop decreases-loop)
+    → let at = c in
+    at.loop-i.additions + c.reduce_word-left.result.additions ≤ (start_of at.before.before.before.before).args.n
 few c =
-    let at = c.before.before.before.before in
-    let a = (start_of at).args in
-    reduced_few a.n a.width a.number.0 a.rows.now a.constants.now at.loop.i _ _ _ (after c)
+    let at = c in
+    let a = (start_of at.before.before.before.before).args in
+    reduced_few a.n a.width a.number.0 a.rows.now a.constants.now at.loop-i.i _ _ _ (after c)
 
-add-additions : tie.Need-overflow-add-additions invariant-loop decreases-loop
+add-additions : tie.Need-overflow_add-additions invariant-loop decreases-loop
 add-additions c = omega (arith, few c.before.before.before.before.before)
 
 -- ---- a word with an atom that has no pivot
 
-word_fits : (c : tie.Then1 invariant-loop decreases-loop)
-    → c.before.before.before.before.before.before.before.reduce-word.result.word < 2 ^ 64
+word_fits : (c : tie.Then-left-ne0 invariant-loop decreases-loop)
+    → c.reduce_word-left.result.word < 2 ^ 64
 word_fits c =
-    let call = c.before.before.before.before.before.before.before in
-    let at = call.before.before.before.before in
-    let a = (start_of at).args in
-    let inside = call.before.before.before.loop-test.true in
-    rw (call.reduce-word.ensures.1.0 ∙ row_word a.width a.number.0 call.reduce-word.new.0 at.loop.i inside)
-    (c.before.before.before.before.before.slice-known3.given (a.number.0 * a.width + at.loop.i)).fits
+    let call = c in
+    let at = call in
+    let a = (start_of at.before.before.before.before.before.before.before.before.before.before.before).args in
+    let inside = call.loop-i-test.true in
+    rw (call.reduce_word-left.ensures.1.0 ∙ row_word a.width a.number.0 call.reduce_word-left.new.rows at.loop-i.i inside)
+    (c.slice_known-in-loop-i-1.given (a.number.0 * a.width + at.loop-i.i)).fits
 
-word_some : (c : tie.Then1 invariant-loop decreases-loop)
-    → 0 < c.before.before.before.before.before.before.before.reduce-word.result.word
-word_some c = omega (arith, c.if1.true)
+word_some : (c : tie.Then-left-ne0 invariant-loop decreases-loop)
+    → 0 < c.reduce_word-left.result.word
+word_some c = omega (arith, c.if-left-ne0.true)
 
 -- the row as it is left
-left : (c : tie.Then1 invariant-loop decreases-loop)
-    → let call = c.before.before.before.before.before.before.before in
-    let at = call.before.before.before.before in
-    let a = (start_of at).args in
-    let word = call.reduce-word.result.word in
-    Finished a.n a.width a.number.0 a.rows.now a.constants.now call.reduce-word.new.0 call.reduce-word.new.1.0 word (at.loop.i * 64 + count_trailing_zeros 64 word) (at.loop.additions + call.reduce-word.result.additions)
+left : (c : tie.Then-left-ne0 invariant-loop decreases-loop)
+    → let call = c in
+    let at = call in
+    let a = (start_of at.before.before.before.before.before.before.before.before.before.before.before).args in
+    let word = call.reduce_word-left.result.word in
+    Finished a.n a.width a.number.0 a.rows.now a.constants.now call.reduce_word-left.new.rows call.reduce_word-left.new.constants word (at.loop-i.i * 64 + count_trailing_zeros 64 word) (at.loop-i.additions + call.reduce_word-left.result.additions)
 left c =
-    let call = c.before.before.before.before.before.before.before in
-    let at = call.before.before.before.before in
-    let a = (start_of at).args in
-    let e = call.reduce-word.ensures in
-    finished_pivot a.n a.width a.number.0 a.rows.now a.constants.now at.loop.i _ _ _ (after call) a.heads.now a.sources.now (start_of at).requires.3 call.before.before.before.loop-test.true _ e.1.0 (word_fits c) (word_some c) e.1.1
+    let call = c in
+    let at = call in
+    let a = (start_of at.before.before.before.before.before.before.before.before.before.before.before).args in
+    let e = call.reduce_word-left.ensures in
+    finished_pivot a.n a.width a.number.0 a.rows.now a.constants.now at.loop-i.i _ _ _ (after call.before.before.before.before.before.before.before) a.heads.now a.sources.now (start_of at.before.before.before.before.before.before.before.before.before.before.before).requires.3 call.loop-i-test.true _ e.1.0 (word_fits c) (word_some c) e.1.1
 
-mul-t17 : tie.Need-overflow-mul-t17 invariant-loop decreases-loop
+mul-t17 : tie.Need-overflow_mul-result invariant-loop decreases-loop
 mul-t17 c = omega (arith, ((left c).pivot (word_some c)).atom)
 
-cast-t19 : tie.Need-overflow-cast-t19 invariant-loop decreases-loop
-cast-t19 c = omega (arith, trailing_le 64 c.before.before.before.before.before.before.before.before.reduce-word.result.word)
+cast-t19 : tie.Need-overflow_cast-result invariant-loop decreases-loop
+cast-t19 c = omega (arith, trailing_le 64 c.reduce_word-left.result.word)
 
-add-t20 : tie.Need-overflow-add-t20 invariant-loop decreases-loop
+add-t20 : tie.Need-overflow_add-result invariant-loop decreases-loop
 add-t20 c = omega (arith, ((left c.before).pivot (word_some c.before)).atom)
 
-same_length : tie.Need-same-length invariant-loop decreases-loop
+same_length : tie.Need-shape_of-rows-then-left-ne0 invariant-loop decreases-loop
 same_length c = (left c.before).only.words
 
-same-length-2 : tie.Need-same-length-2 invariant-loop decreases-loop
+same-length-2 : tie.Need-shape_of-constants-then-left-ne0 invariant-loop decreases-loop
 same-length-2 c = (left c.before).only.constants
 
-returns : tie.Need-returns invariant-loop decreases-loop
+returns : tie.Need-returns-then-left-ne0 invariant-loop decreases-loop
 returns c = left c.before
 
 -- ---- the next word
 
-add-i : tie.Need-overflow-add-i invariant-loop decreases-loop
+add-i : tie.Need-overflow_add-i invariant-loop decreases-loop
 add-i c = search rules
 
-loop-less : tie.Need-loop-smaller invariant-loop decreases-loop
+loop-less : tie.Need-loop-i-smaller invariant-loop decreases-loop
 loop-less c = search rules
 
-loop-again : tie.Need-loop-preserved invariant-loop decreases-loop
+loop-again : tie.Need-loop-i-preserved invariant-loop decreases-loop
 loop-again c =
-    let call = c.before.before.before.before.before.before.before in
-    let at = call.before.before.before.before in
-    let a = (start_of at).args in
-    let inside = call.before.before.before.loop-test.true in
-    (omega arith, reduced_next a.n a.width a.number.0 a.rows.now a.constants.now at.loop.i _ _ _ (after call) inside (sym call.reduce-word.ensures.1.0 ∙ c.if1.false))
+    let call = c in
+    let at = call in
+    let a = (start_of at.before.before.before.before.before.before.before.before.before.before.before).args in
+    let inside = call.loop-i-test.true in
+    (omega arith, reduced_next a.n a.width a.number.0 a.rows.now a.constants.now at.loop-i.i _ _ _ (after call.before.before.before.before.before.before.before) inside (sym call.reduce_word-left.ensures.1.0 ∙ c.if-left-ne0.false))
 
 -- ---- the whole row
 
-same-length-3 : tie.Need-same-length-3 invariant-loop decreases-loop
-same-length-3 c = c.before.loop.invariant.1.only.words
+same-length-3 : tie.Need-shape_of-rows invariant-loop decreases-loop
+same-length-3 c = c.loop-i.invariant.1.only.words
 
-same-length-4 : tie.Need-same-length-4 invariant-loop decreases-loop
-same-length-4 c = c.before.loop.invariant.1.only.constants
+same-length-4 : tie.Need-shape_of-constants invariant-loop decreases-loop
+same-length-4 c = c.loop-i.invariant.1.only.constants
 
-returns-2 : tie.Need-returns-2 invariant-loop decreases-loop
+returns-2 : tie.Need-returns invariant-loop decreases-loop
 returns-2 c =
-    let at = c.before in
-    let a = (start_of at).args in
-    finished_empty a.n a.width a.number.0 a.rows.now a.constants.now at.loop.i at.loop.rows at.loop.constants at.loop.additions at.loop.invariant.1 c.loop-test.false
+    let at = c in
+    let a = (start_of at.before).args in
+    finished_empty a.n a.width a.number.0 a.rows.now a.constants.now at.loop-i.i at.loop-i.rows at.loop-i.constants at.loop-i.additions at.loop-i.invariant.1 c.loop-i-test.false
 
-pub reduce-from-spec : {M : Type 1} → statement M
-reduce-from-spec =
+pub reduce_from_spec : {M : Type 1} → statement M
+reduce_from_spec =
     tie.close
     (tie.spec
     invariant-loop

@@ -6,5 +6,5 @@ use Rattle.hull.proofs.Chosen.{every_sum}
 returns : tie.Need-returns
 returns c = every_sum
 
-pub every-sum-spec : {M : Type 1} → statement M
-every-sum-spec = tie.close (tie.spec returns)
+pub every_sum_spec : {M : Type 1} → statement M
+every_sum_spec = tie.close (tie.spec returns)

@@ -6,5 +6,5 @@ use Rattle.hull.proofs.Exact.{exact_is_count}
 returns : tie.Need-returns
 returns c = exact_is_count
 
-pub exact-is-count-spec : {M : Type 1} → statement M
-exact-is-count-spec = tie.close (tie.spec returns)
+pub exact_is_count_spec : {M : Type 1} → statement M
+exact_is_count_spec = tie.close (tie.spec returns)

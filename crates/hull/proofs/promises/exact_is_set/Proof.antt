@@ -6,5 +6,5 @@ use Rattle.hull.proofs.Exact.{exact_is_set}
 returns : tie.Need-returns
 returns c = exact_is_set
 
-pub exact-is-set-spec : {M : Type 1} → statement M
-exact-is-set-spec = tie.close (tie.spec returns)
+pub exact_is_set_spec : {M : Type 1} → statement M
+exact_is_set_spec = tie.close (tie.spec returns)

@@ -6,5 +6,5 @@ use Rattle.hull.proofs.Only.{free_equations}
 returns : tie.Need-returns
 returns c = free_equations
 
-pub free-equations-spec : {M : Type 1} → statement M
-free-equations-spec = tie.close (tie.spec returns)
+pub free_equations_spec : {M : Type 1} → statement M
+free_equations_spec = tie.close (tie.spec returns)

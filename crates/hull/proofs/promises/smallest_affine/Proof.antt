@@ -6,5 +6,5 @@ use Rattle.hull.proofs.Smallest.{smallest_affine}
 returns : tie.Need-returns
 returns c = smallest_affine
 
-pub smallest-affine-spec : {M : Type 1} → statement M
-smallest-affine-spec = tie.close (tie.spec returns)
+pub smallest_affine_spec : {M : Type 1} → statement M
+smallest_affine_spec = tie.close (tie.spec returns)

@@ -6,5 +6,5 @@ use Rattle.hull.proofs.Allowed.{table_pivots}
 returns : tie.Need-returns
 returns c = table_pivots
 
-pub table-pivots-spec : {M : Type 1} → statement M
-table-pivots-spec = tie.close (tie.spec returns)
+pub table_pivots_spec : {M : Type 1} → statement M
+table_pivots_spec = tie.close (tie.spec returns)

@@ -17,12 +17,12 @@ use Rattle.region.proofs.Deciding.{refused, same, against, taken, word_in}
 use Rattle.region.proofs.Region.hold.Statement.{statement}
 use Rattle.region.proofs.Region.hold.Tie as tie
 
-decide-number-requires : tie.Need-decide-number-requires
+decide-number-requires : tie.Need-decide_number-number-requires
 decide-number-requires c κs = search rules
 
-returns : tie.Need-returns
+returns : tie.Need-returns-then-number-ne0
 unfolding hold_of
-returns c = refused c.before.before.args.t1 c.before.before.args.atom _ c.before.decide-number.ensures true c.if1.true
+returns c = refused c.args.t1 c.args.atom _ c.decide_number-number.ensures true c.if-number-ne0.true
 
 mask-requires : tie.Need-mask-requires
 mask-requires c κs = search rules
@@ -32,20 +32,20 @@ contains-requires c κs = search rules
 
 -- what a mask is asked is whether the atom is in it
 looked : (c : tie.After-contains)
-    → let a = c.before.before.before.before.before.before.before.before.before.args in c.contains.result ≡ has (set_of a.t1.held) a.atom.0
-looked c = c.contains.ensures ∙ ap (λ (l : List ℕ). has (set_of l) c.before.before.before.before.before.before.before.before.before.args.atom.0) c.before.mask.ensures
+    → let a = c.args in c.contains.result ≡ has (set_of a.t1.held) a.atom.0
+looked c = c.contains.ensures ∙ ap (λ (l : List ℕ). has (set_of l) c.args.atom.0) c.mask.ensures
 
-looked2 : (c : tie.After-contains2)
-    → let a = c.before.before.before.before.before.before.before.before.before.before.before.before.before.before.before.before.before.args in c.contains2.result ≡ has (set_of a.t1.cut) a.atom.0
-looked2 c = c.contains2.ensures ∙ ap (λ (l : List ℕ). has (set_of l) c.before.before.before.before.before.before.before.before.before.before.before.before.before.before.before.before.before.args.atom.0) c.before.mask2.ensures
+looked2 : (c : tie.After-contains-2)
+    → let a = c.args in c.contains-2.result ≡ has (set_of a.t1.cut) a.atom.0
+looked2 c = c.contains-2.ensures ∙ ap (λ (l : List ℕ). has (set_of l) c.args.atom.0) c.mask-2.ensures
 
-returns-2 : tie.Need-returns-2
+returns-2 : tie.Need-returns-then-contains
 unfolding hold_of
 returns-2 c =
-    let checked = c.before.before.before.before.before.before.before.before in
-    let start = checked.before.before in
-    same start.args.t1 start.args.atom _ checked.before.decide-number.ensures checked.if1.false (eight_of start.args.t1 _ start.well-formed.0) true
-    (sym (looked c.before) ∙ c.if2.true)
+    let checked = c in
+    let start = checked in
+    same start.args.t1 start.args.atom _ checked.decide_number-number.ensures checked.if-number-ne0.false (eight_of start.args.t1 _ start.well_formed.0) true
+    (sym (looked c.before) ∙ c.if-contains.true)
 
 mask-requires-2 : tie.Need-mask-requires-2
 mask-requires-2 c κs = search rules
@@ -53,57 +53,57 @@ mask-requires-2 c κs = search rules
 contains-requires-2 : tie.Need-contains-requires-2
 contains-requires-2 c κs = search rules
 
-returns-3 : tie.Need-returns-3
+returns-3 : tie.Need-returns-then-contains-2
 unfolding hold_of
 returns-3 c =
-    let other = c.before.before.before.before.before.before.before.before in
-    let checked = other.before.before.before.before.before.before.before.before in
-    let start = checked.before.before in
-    against start.args.t1 start.args.atom _ checked.before.decide-number.ensures checked.if1.false (eight_of start.args.t1 _ start.well-formed.0) true
-    (sym (looked2 c.before) ∙ c.if3.true)
+    let other = c in
+    let checked = other in
+    let start = checked in
+    against start.args.t1 start.args.atom _ checked.decide_number-number.ensures checked.if-number-ne0.false (eight_of start.args.t1 _ start.well_formed.0) true
+    (sym (looked2 c.before) ∙ c.if-contains-2.true)
 
-locate-requires : tie.Need-locate-requires
+locate-requires : tie.Need-locate-place-requires
 locate-requires c κs = search rules
 
 -- the atom's word is one of the eight
-word : (c : tie.After-locate) → c.locate.result.word < 8
+word : (c : tie.After-locate-place) → c.locate-place.result.word < 8
 word c =
-    let checked = c.before.before.before.before.before.before.before.before.before.before.before.before.before.before.before.before.before in
-    let start = checked.before.before in
+    let checked = c in
+    let start = checked in
     omega (
       arith,
-      ap (λ (p : Place). p.word) c.locate.ensures,
-      word_in start.args.t1 start.args.atom _ checked.before.decide-number.ensures checked.if1.false,
+      ap (λ (p : Place). p.word) c.locate-place.ensures,
+      word_in start.args.t1 start.args.atom _ checked.decide_number-number.ensures checked.if-number-ne0.false,
     )
 
-mul-self : tie.Need-overflow-mul-self
+mul-self : tie.Need-offset_bounds-self-word
 mul-self c = omega (arith, word c)
 
-element-copy-out-self : tie.Need-element-copy-out-self
+element-copy-out-self : tie.Need-bounds-self-word
 element-copy-out-self c = word c
 
-mul-self-2 : tie.Need-overflow-mul-self-2
+mul-self-2 : tie.Need-offset_bounds-self-word-2
 mul-self-2 c = omega (arith, word c.before.before)
 
-element-write-self : tie.Need-element-write-self
+element-write-self : tie.Need-bounds-self-word-2
 element-write-self c = word c.before.before
 
-returns-4 : tie.Need-returns-4
+returns-4 : tie.Need-returns
 unfolding hold_of inserted
 returns-4 c =
-    let located = c.before.before in
-    let free = located.before in
-    let other = free.before.before.before.before.before.before.before.before in
-    let checked = other.before.before.before.before.before.before.before.before in
-    let start = checked.before.before in
+    let located = c in
+    let free = located in
+    let other = free in
+    let checked = other in
+    let start = checked in
     let r = start.args.t1 in
     ap (λ (p : Place). said (record { atoms = r.atoms; held = set r.held p.word (bit_or (get_or r.held p.word 0) p.bit); cut = r.cut }) Taken)
-    located.locate.ensures
-    ∙ taken r start.args.atom _ checked.before.decide-number.ensures checked.if1.false (eight_of r _ start.well-formed.0) true
-    (sym (looked other.before) ∙ other.if2.false) (sym (looked2 free.before) ∙ free.if3.false)
+    located.locate-place.ensures
+    ∙ taken r start.args.atom _ checked.decide_number-number.ensures checked.if-number-ne0.false (eight_of r _ start.well_formed.0) true
+    (sym (looked other.before.before.before.before.before.before.before.before.before.before.before) ∙ other.if-contains.false) (sym (looked2 free.before.before.before.before) ∙ free.if-contains-2.false)
 
-pub hold-spec : {M : Type 1} → statement M
-hold-spec =
+pub hold_spec : {M : Type 1} → statement M
+hold_spec =
     tie.close
     (tie.spec
     decide-number-requires

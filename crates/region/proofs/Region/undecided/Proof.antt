@@ -5,13 +5,13 @@ use Rattle.region.proofs.Deciding.{open_region}
 use Rattle.region.proofs.Region.undecided.Statement.{statement}
 use Rattle.region.proofs.Region.undecided.Tie as tie
 
-returns : tie.Need-returns
+returns : tie.Need-returns-then-n-gt-LIMIT
 unfolding undecided_of
-returns c = simp (lt-ltb 512 c.before.args.n c.if1.true, open_region 0)
+returns c = simp (lt-ltb 512 c.args.n c.if-n-gt-LIMIT.true, open_region 0)
 
-returns-2 : tie.Need-returns-2
+returns-2 : tie.Need-returns
 unfolding undecided_of
-returns-2 c = simp (le-ltb 512 c.before.args.n c.if1.false, open_region c.before.args.n)
+returns-2 c = simp (le-ltb 512 c.args.n c.if-n-gt-LIMIT.false, open_region c.args.n)
 
-pub undecided-spec : {M : Type 1} → statement M
-undecided-spec = tie.close (tie.spec returns returns-2)
+pub undecided_spec : {M : Type 1} → statement M
+undecided_spec = tie.close (tie.spec returns returns-2)

@@ -6,5 +6,5 @@ use Rattle.region.proofs.promises.accepted_stands.Tie as tie
 returns : tie.Need-returns
 returns c = accepted_stands
 
-pub accepted-stands-spec : {M : Type 1} → statement M
-accepted-stands-spec = tie.close (tie.spec returns)
+pub accepted_stands_spec : {M : Type 1} → statement M
+accepted_stands_spec = tie.close (tie.spec returns)

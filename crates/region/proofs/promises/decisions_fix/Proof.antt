@@ -7,5 +7,5 @@ returns : tie.Need-returns
 returns c r held_length cut_length held_fits cut_fits =
     region_back r (record { held_length = held_length; cut_length = cut_length; held_fits = held_fits; cut_fits = cut_fits })
 
-pub decisions-fix-spec : {M : Type 1} → statement M
-decisions-fix-spec = tie.close (tie.spec returns)
+pub decisions_fix_spec : {M : Type 1} → statement M
+decisions_fix_spec = tie.close (tie.spec returns)

@@ -6,5 +6,5 @@ use Rattle.region.proofs.promises.decisions_stay.Tie as tie
 returns : tie.Need-returns
 returns c = decisions_stay
 
-pub decisions-stay-spec : {M : Type 1} → statement M
-decisions-stay-spec = tie.close (tie.spec returns)
+pub decisions_stay_spec : {M : Type 1} → statement M
+decisions_stay_spec = tie.close (tie.spec returns)

@@ -6,5 +6,5 @@ use Rattle.region.proofs.promises.others_stay.Tie as tie
 returns : tie.Need-returns
 returns c = others_stay
 
-pub others-stay-spec : {M : Type 1} → statement M
-others-stay-spec = tie.close (tie.spec returns)
+pub others_stay_spec : {M : Type 1} → statement M
+others_stay_spec = tie.close (tie.spec returns)

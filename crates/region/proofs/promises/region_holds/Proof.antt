@@ -6,5 +6,5 @@ use Rattle.region.proofs.promises.region_holds.Tie as tie
 returns : tie.Need-returns
 returns c = region_holds
 
-pub region-holds-spec : {M : Type 1} → statement M
-region-holds-spec = tie.close (tie.spec returns)
+pub region_holds_spec : {M : Type 1} → statement M
+region_holds_spec = tie.close (tie.spec returns)
