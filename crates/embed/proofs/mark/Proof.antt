@@ -9,49 +9,49 @@ use borrow.Author.Rules.{rules}
 use Rattle.embed.proofs.mark.Statement.{statement}
 use Rattle.embed.proofs.mark.Tie as tie
 
-abbrev invariant-loop : tie.invariant-loop
+abbrev invariant-loop : tie.invariant-loop-i
 invariant-loop row₀ coefficients names rest₀ i₀ row rest i = (i ≤ length names) × (length row ≡ length row₀) × (marked (drop i names) rest row ≡ marked names coefficients row₀)
 
-abbrev decreases-loop : tie.decreases-loop
+abbrev decreases-loop : tie.decreases-loop-i
 decreases-loop row₀ coefficients names rest₀ i₀ row rest i = length names - i
 
-loop-holds : tie.Need-loop-init invariant-loop decreases-loop
+loop-holds : tie.Need-loop-i-init invariant-loop decreases-loop
 loop-holds c = (search rules, refl, refl)
 
-mul-mark-if : tie.Need-overflow-mul-mark-if invariant-loop decreases-loop
+mul-mark-if : tie.Need-offset_bounds-names-i invariant-loop decreases-loop
 mul-mark-if c = search rules
 
-shared-slice-read-mark-if : tie.Need-shared-slice-read-mark-if invariant-loop decreases-loop
+shared-slice-read-mark-if : tie.Need-bounds-names-i invariant-loop decreases-loop
 shared-slice-read-mark-if c = search rules
 
-mark-if-requires : tie.Need-mark-if-requires invariant-loop decreases-loop
+mark-if-requires : tie.Need-mark_if-requires invariant-loop decreases-loop
 mark-if-requires c κs = search rules
 
-add-i : tie.Need-overflow-add-i invariant-loop decreases-loop
+add-i : tie.Need-overflow_add-i invariant-loop decreases-loop
 add-i c = search rules
 
-loop-less : tie.Need-loop-smaller invariant-loop decreases-loop
+loop-less : tie.Need-loop-i-smaller invariant-loop decreases-loop
 loop-less c = search rules
 
-loop-again : tie.Need-loop-preserved invariant-loop decreases-loop
+loop-again : tie.Need-loop-i-preserved invariant-loop decreases-loop
 loop-again c =
-    let call = c.before.before in
-    let at = call.before.before.before.before in
-    let names = at.before.before.before.args.names.now in
-    let i = at.loop.i in
-    let rest = at.loop.rest in (
+    let call = c in
+    let at = call in
+    let names = at.args.names.now in
+    let i = at.loop-i.i in
+    let rest = at.loop-i.rest in (
       omega arith,
-      call.mark-if.auto.0 ∙ at.loop.invariant.1,
-      ap (marked (drop (i + 1) names) (rest / 2)) call.mark-if.ensures ∙ sym (marked_next names i rest at.loop.row (omega arith)) ∙ at.loop.invariant.2,
+      call.mark_if.auto.row ∙ at.loop-i.invariant.1,
+      ap (marked (drop (i + 1) names) (rest / 2)) call.mark_if.ensures ∙ sym (marked_next names i rest at.loop-i.row (omega arith)) ∙ at.loop-i.invariant.2,
     )
 
-same_length : tie.Need-same-length invariant-loop decreases-loop
+same_length : tie.Need-shape_of-row invariant-loop decreases-loop
 same_length c = search rules
 
 returns : tie.Need-returns invariant-loop decreases-loop
 returns c =
-    let at = c.before in
-    sym (marked_end at.before.before.before.args.names.now at.loop.i at.loop.rest at.loop.row (omega arith)) ∙ at.loop.invariant.2
+    let at = c in
+    sym (marked_end at.args.names.now at.loop-i.i at.loop-i.rest at.loop-i.row (omega arith)) ∙ at.loop-i.invariant.2
 
 pub mark_spec : {M : Type 1} → statement M
 mark_spec =

@@ -9,19 +9,19 @@ use Rattle.embed.proofs.mark_if.Tie as tie
 insert-requires : tie.Need-insert-requires
 insert-requires c κs = search rules
 
-same_length : tie.Need-same-length
+same_length : tie.Need-shape_of-row
 same_length c = search rules
 
-returns : tie.Need-returns
+returns : tie.Need-returns-then-wanted
 returns c =
-    let call = c.before.before in
-    let a = call.before.before.before.before.args in
-    call.insert.ensures.1 ∙ sym (ap (λ (t : Bool). cond t (inserted a.row.now a.atom) a.row.now) call.before.before.if1.true)
+    let call = c in
+    let a = call.args in
+    call.insert.ensures.1 ∙ sym (ap (λ (t : Bool). cond t (inserted a.row.now a.atom) a.row.now) call.if-wanted.true)
 
-returns-2 : tie.Need-returns-2
+returns-2 : tie.Need-returns-else-wanted
 returns-2 c =
-    let a = c.before.before.args in
-    sym (ap (λ (t : Bool). cond t (inserted a.row.now a.atom) a.row.now) c.if1.false)
+    let a = c.args in
+    sym (ap (λ (t : Bool). cond t (inserted a.row.now a.atom) a.row.now) c.if-wanted.false)
 
-pub mark-if-spec : {M : Type 1} → statement M
-mark-if-spec = tie.close (tie.spec insert-requires same_length returns returns-2)
+pub mark_if_spec : {M : Type 1} → statement M
+mark_if_spec = tie.close (tie.spec insert-requires same_length returns returns-2)

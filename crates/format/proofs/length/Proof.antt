@@ -10,7 +10,7 @@ short-requires : tie.Need-short-requires
 short-requires c κs = search rules
 
 returns : tie.Need-returns
-returns c = (c.short.ensures.0 ∙ ap (short_at c.before.before.args.file.now) (add-zero _), c.short.ensures.1)
+returns c = (c.short.ensures.0 ∙ ap (short_at c.args.file.now) (add-zero _), c.short.ensures.1)
 
 pub length_spec : {M : Type 1} → statement M
 length_spec = tie.close (tie.spec short-requires returns)

@@ -10,58 +10,58 @@ use borrow.Author.Rules.{rules}
 use Rattle.format.proofs.read_atoms.Statement.{statement}
 use Rattle.format.proofs.read_atoms.Tie as tie
 
-abbrev invariant-loop : tie.invariant-loop
+abbrev invariant-loop : tie.invariant-loop-i
 invariant-loop file o atoms₀ i₀ atoms i = (i ≤ length atoms₀) × (length atoms ≡ length atoms₀) × (take i atoms ≡ list_from (atom_at file o) 0 i)
 
-abbrev decreases-loop : tie.decreases-loop
+abbrev decreases-loop : tie.decreases-loop-i
 decreases-loop file o atoms₀ i₀ atoms i = length atoms₀ - i
 
-loop-holds : tie.Need-loop-init invariant-loop decreases-loop
+loop-holds : tie.Need-loop-i-init invariant-loop decreases-loop
 unfolding list_from
 loop-holds c = (search rules, refl, refl)
 
-mul-short : tie.Need-overflow-mul-short invariant-loop decreases-loop
+mul-short : tie.Need-overflow_mul-i invariant-loop decreases-loop
 mul-short c = search rules
 
-add-short : tie.Need-overflow-add-short invariant-loop decreases-loop
+add-short : tie.Need-overflow_add-i invariant-loop decreases-loop
 add-short c = search rules
 
 short-requires : tie.Need-short-requires invariant-loop decreases-loop
 short-requires c κs = search rules
 
-mul-atoms : tie.Need-overflow-mul-atoms invariant-loop decreases-loop
+mul-atoms : tie.Need-offset_bounds-atoms-i invariant-loop decreases-loop
 mul-atoms c = search rules
 
-slice-write-atoms : tie.Need-slice-write-atoms invariant-loop decreases-loop
+slice-write-atoms : tie.Need-bounds-atoms-i invariant-loop decreases-loop
 slice-write-atoms c = search rules
 
-add-i : tie.Need-overflow-add-i invariant-loop decreases-loop
+add-i : tie.Need-overflow_add-i-in-loop-i invariant-loop decreases-loop
 add-i c = search rules
 
-loop-less : tie.Need-loop-smaller invariant-loop decreases-loop
+loop-less : tie.Need-loop-i-smaller invariant-loop decreases-loop
 loop-less c = search rules
 
-loop-again : tie.Need-loop-preserved invariant-loop decreases-loop
+loop-again : tie.Need-loop-i-preserved invariant-loop decreases-loop
 loop-again c =
-    let at = c.before.before in
-    let a = at.before.before.before.args in
-    let within : at.loop.i < length at.loop.atoms = omega (arith, at.loop.invariant.1, c.before.loop-test.true) in (
+    let at = c in
+    let a = at.args in
+    let within : at.loop-i.i < length at.loop-i.atoms = omega (arith, at.loop-i.invariant.1, c.loop-i-test.true) in (
       omega arith,
-      length-set at.loop.atoms _ _ ∙ at.loop.invariant.1,
-      fill_next (atom_at a.file.now a.o) at.loop.atoms at.loop.i _ within at.loop.invariant.2 c.short.ensures.0,
+      length-set at.loop-i.atoms _ _ ∙ at.loop-i.invariant.1,
+      fill_next (atom_at a.file.now a.o) at.loop-i.atoms at.loop-i.i _ within at.loop-i.invariant.2 c.short.ensures.0,
     )
 
-same_length : tie.Need-same-length invariant-loop decreases-loop
+same_length : tie.Need-shape_of-atoms invariant-loop decreases-loop
 same_length c = search rules
 
 returns : tie.Need-returns invariant-loop decreases-loop
 returns c =
-    let at = c.before in
-    let a = at.before.before.before.args in
-    fill_end (atom_at a.file.now a.o) at.loop.atoms at.loop.i (length a.atoms.now) at.loop.invariant.1 (omega (arith, at.loop.invariant.1, c.loop-test.false)) at.loop.invariant.0 at.loop.invariant.2
+    let at = c in
+    let a = at.args in
+    fill_end (atom_at a.file.now a.o) at.loop-i.atoms at.loop-i.i (length a.atoms.now) at.loop-i.invariant.1 (omega (arith, at.loop-i.invariant.1, c.loop-i-test.false)) at.loop-i.invariant.0 at.loop-i.invariant.2
 
-pub read-atoms-spec : {M : Type 1} → statement M
-read-atoms-spec =
+pub read_atoms_spec : {M : Type 1} → statement M
+read_atoms_spec =
     tie.close
     (tie.spec
     invariant-loop

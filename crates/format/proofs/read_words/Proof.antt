@@ -10,67 +10,67 @@ use borrow.Author.Rules.{rules}
 use Rattle.format.proofs.read_words.Statement.{statement}
 use Rattle.format.proofs.read_words.Tie as tie
 
-abbrev invariant-loop : tie.invariant-loop
+abbrev invariant-loop : tie.invariant-loop-j
 invariant-loop file o words₀ start j₀ words j = (j ≤ length words₀) × (length words ≡ length words₀) × (take j words ≡ list_from (table_word_at file o) 0 j)
 
-abbrev decreases-loop : tie.decreases-loop
+abbrev decreases-loop : tie.decreases-loop-j
 decreases-loop file o words₀ start j₀ words j = length words₀ - j
 
 byte-requires : tie.Need-byte-requires invariant-loop decreases-loop
 byte-requires c κs = search rules
 
-mul-start : tie.Need-overflow-mul-start invariant-loop decreases-loop
+mul-start : tie.Need-overflow_mul-start invariant-loop decreases-loop
 mul-start c = search rules
 
-add_start : tie.Need-overflow-add-start invariant-loop decreases-loop
+add_start : tie.Need-overflow_add-start invariant-loop decreases-loop
 add_start c = search rules
 
-loop-holds : tie.Need-loop-init invariant-loop decreases-loop
+loop-holds : tie.Need-loop-j-init invariant-loop decreases-loop
 unfolding list_from
 loop-holds c = (search rules, refl, refl)
 
-mul-word : tie.Need-overflow-mul-word invariant-loop decreases-loop
+mul-word : tie.Need-overflow_mul-j invariant-loop decreases-loop
 mul-word c = search rules
 
-add-word : tie.Need-overflow-add-word invariant-loop decreases-loop
+add-word : tie.Need-overflow_add-start-in-loop-j invariant-loop decreases-loop
 add-word c = search rules
 
 word-requires : tie.Need-word-requires invariant-loop decreases-loop
 word-requires c κs = search rules
 
-mul_words : tie.Need-overflow-mul-words invariant-loop decreases-loop
+mul_words : tie.Need-offset_bounds-words-j invariant-loop decreases-loop
 mul_words c = search rules
 
-slice-write-words : tie.Need-slice-write-words invariant-loop decreases-loop
+slice-write-words : tie.Need-bounds-words-j invariant-loop decreases-loop
 slice-write-words c = search rules
 
-add-j : tie.Need-overflow-add-j invariant-loop decreases-loop
+add-j : tie.Need-overflow_add-j invariant-loop decreases-loop
 add-j c = search rules
 
-loop-less : tie.Need-loop-smaller invariant-loop decreases-loop
+loop-less : tie.Need-loop-j-smaller invariant-loop decreases-loop
 loop-less c = search rules
 
-loop-again : tie.Need-loop-preserved invariant-loop decreases-loop
+loop-again : tie.Need-loop-j-preserved invariant-loop decreases-loop
 loop-again c =
-    let at = c.before.before in
-    let a = at.before.before.before.before.args in
-    let within : at.loop.j < length at.loop.words = omega (arith, at.loop.invariant.1, c.before.loop-test.true) in (
+    let at = c in
+    let a = at.args in
+    let within : at.loop-j.j < length at.loop-j.words = omega (arith, at.loop-j.invariant.1, c.loop-j-test.true) in (
       omega arith,
-      length-set at.loop.words _ _ ∙ at.loop.invariant.1,
-      fill_next (table_word_at a.file.now a.o) at.loop.words at.loop.j _ within at.loop.invariant.2 (c.word.ensures ∙ ap (λ (k : ℕ). word_at a.file.now (a.o + (5 + k * 2 + at.loop.j * 8))) at.before.byte.ensures.0),
+      length-set at.loop-j.words _ _ ∙ at.loop-j.invariant.1,
+      fill_next (table_word_at a.file.now a.o) at.loop-j.words at.loop-j.j _ within at.loop-j.invariant.2 (c.word.ensures ∙ ap (λ (k : ℕ). word_at a.file.now (a.o + (5 + k * 2 + at.loop-j.j * 8))) at.byte.ensures.0),
     )
 
-same_length : tie.Need-same-length invariant-loop decreases-loop
+same_length : tie.Need-shape_of-words invariant-loop decreases-loop
 same_length c = search rules
 
 returns : tie.Need-returns invariant-loop decreases-loop
 returns c =
-    let at = c.before in
-    let a = at.before.before.before.before.args in
-    fill_end (table_word_at a.file.now a.o) at.loop.words at.loop.j (length a.words.now) at.loop.invariant.1 (omega (arith, at.loop.invariant.1, c.loop-test.false)) at.loop.invariant.0 at.loop.invariant.2
+    let at = c in
+    let a = at.args in
+    fill_end (table_word_at a.file.now a.o) at.loop-j.words at.loop-j.j (length a.words.now) at.loop-j.invariant.1 (omega (arith, at.loop-j.invariant.1, c.loop-j-test.false)) at.loop-j.invariant.0 at.loop-j.invariant.2
 
-pub read-words-spec : {M : Type 1} → statement M
-read-words-spec =
+pub read_words_spec : {M : Type 1} → statement M
+read_words_spec =
     tie.close
     (tie.spec
     invariant-loop

@@ -6,37 +6,37 @@ use borrow.Author.Rules.{rules}
 use Rattle.parity.proofs.unfit.Statement.{statement}
 use Rattle.parity.proofs.unfit.Tie as tie
 
-rows-number-requires : tie.Need-rows-number-requires
+rows-number-requires : tie.Need-rows_number-number-requires
 rows-number-requires c κs = search rules
 
-returns : tie.Need-returns
+returns : tie.Need-returns-then-number-eq10
 unfolding prepare_unfit
 returns c =
-    let call = c.before in
-    let a = call.before.before.before.before.before.before.before.args in
-    joined_ten a.n a.m a.rows.now a.constants.now _ _ call.rows-number.ensures c.if1.true
+    let call = c in
+    let a = call.args in
+    joined_ten a.n a.m a.rows.now a.constants.now _ _ call.rows_number-number.ensures c.if-number-eq10.true
 
-lists-short-requires : tie.Need-lists-short-requires
+lists-short-requires : tie.Need-lists_short-requires
 lists-short-requires c κs =
-    let call = c.before in
-    let a = call.before.before.before.before.before.before.before.args in
-    (not_ten a.n a.m a.rows.now a.constants.now _ call.rows-number.ensures c.if1.false).0
+    let call = c in
+    let a = call.args in
+    (not_ten a.n a.m a.rows.now a.constants.now _ call.rows_number-number.ensures c.if-number-eq10.false).0
 
-returns-2 : tie.Need-returns-2
+returns-2 : tie.Need-returns-then-lists_short
 unfolding prepare_unfit
 returns-2 c =
-    let lists = c.before in
-    let call = lists.before.before in
-    let a = call.before.before.before.before.before.before.before.args in
-    joined_nine a.n a.m a.rows.now a.constants.now _ _ call.rows-number.ensures lists.before.if1.false (sym lists.lists-short.ensures ∙ c.if2.true)
+    let lists = c in
+    let call = lists in
+    let a = call.args in
+    joined_nine a.n a.m a.rows.now a.constants.now _ _ call.rows_number-number.ensures lists.if-number-eq10.false (sym lists.lists_short.ensures ∙ c.if-lists_short.true)
 
-returns-3 : tie.Need-returns-3
+returns-3 : tie.Need-returns
 unfolding prepare_unfit
 returns-3 c =
-    let lists = c.before in
-    let call = lists.before.before in
-    let a = call.before.before.before.before.before.before.before.args in
-    joined_none a.n a.m a.rows.now a.constants.now _ _ call.rows-number.ensures (sym lists.lists-short.ensures ∙ c.if2.false)
+    let lists = c in
+    let call = lists in
+    let a = call.args in
+    joined_none a.n a.m a.rows.now a.constants.now _ _ call.rows_number-number.ensures (sym lists.lists_short.ensures ∙ c.if-lists_short.false)
 
-pub unfit-spec : {M : Type 1} → statement M
-unfit-spec = tie.close (tie.spec rows-number-requires returns lists-short-requires returns-2 returns-3)
+pub unfit_spec : {M : Type 1} → statement M
+unfit_spec = tie.close (tie.spec rows-number-requires returns lists-short-requires returns-2 returns-3)

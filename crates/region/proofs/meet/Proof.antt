@@ -22,7 +22,7 @@ decreases-loop left right first second i₀ i = 8 - i
 wide : (c : tie.After-second-1 invariant-loop decreases-loop)
     → let a = c.args in
     (length a.left.now ≡ 8) × (length a.right.now ≡ 8)
-wide c = (c.first-1.given.0, c.second-1.given.0)
+wide c = (c.told-left, c.told-right)
 
 same : (c : tie.After-second-1 invariant-loop decreases-loop) → length c.args.left.now ≤ length c.args.right.now
 same c = omega (arith, wide c)

@@ -18,7 +18,7 @@ returns : tie.Need-returns-then-i-ge8 invariant-loop decreases-loop
 returns c =
     let words = c in
     let a = words.args in
-    start_none 64 a.mask.now a.from (a.from / 64) (a.from % 64) (omega arith) (omega (arith, words.words-1.given.0))
+    start_none 64 a.mask.now a.from (a.from / 64) (a.from % 64) (omega arith) (omega (arith, words.words-1.given))
 
 mul-rest : tie.Need-offset_bounds-words-i invariant-loop decreases-loop
 mul-rest c = search rules
@@ -44,7 +44,7 @@ returns-2 c =
     let read = c in
     let words = read in
     let a = words.args in
-    start_found 64 a.mask.now a.from (a.from / 64) (a.from % 64) (omega arith) (omega arith) (omega (arith, words.words-1.given.0))
+    start_found 64 a.mask.now a.from (a.from / 64) (a.from % 64) (omega arith) (omega arith) (omega (arith, words.words-1.given))
     (read.shared_slice_known-1.given (a.from / 64)).fits (omega arith)
 
 add-i : tie.Need-overflow_add-i invariant-loop decreases-loop
@@ -56,7 +56,7 @@ loop-holds c =
     let words = read in
     let a = words.args in (
       omega arith,
-      start_past 64 a.mask.now a.from (a.from / 64) (a.from % 64) (omega arith) (omega arith) (omega (arith, words.words-1.given.0))
+      start_past 64 a.mask.now a.from (a.from / 64) (a.from % 64) (omega arith) (omega arith) (omega (arith, words.words-1.given))
           (read.shared_slice_known-1.given (a.from / 64)).fits c.if-rest-ne0.false,
     )
 
@@ -87,7 +87,7 @@ returns-3 c =
     let at = read in
     let words = at in
     let a = words.args in
-    past_found 64 a.mask.now a.from at.loop-i.i (omega (arith, words.words-1.given.0)) (read.shared_slice_known-in-loop-i-1.given at.loop-i.i).fits at.loop-i.invariant.1 (omega arith)
+    past_found 64 a.mask.now a.from at.loop-i.i (omega (arith, words.words-1.given)) (read.shared_slice_known-in-loop-i-1.given at.loop-i.i).fits at.loop-i.invariant.1 (omega arith)
 
 add-i-2 : tie.Need-overflow_add-i-in-loop-i invariant-loop decreases-loop
 add-i-2 c = search rules
@@ -102,7 +102,7 @@ loop-again c =
     let words = at in
     let a = words.args in (
       omega arith,
-      past_next 64 a.mask.now a.from at.loop-i.i (omega (arith, words.words-1.given.0)) (read.shared_slice_known-in-loop-i-1.given at.loop-i.i).fits at.loop-i.invariant.1 c.if-word-ne0.false,
+      past_next 64 a.mask.now a.from at.loop-i.i (omega (arith, words.words-1.given)) (read.shared_slice_known-in-loop-i-1.given at.loop-i.i).fits at.loop-i.invariant.1 c.if-word-ne0.false,
     )
 
 returns-4 : tie.Need-returns invariant-loop decreases-loop
@@ -110,7 +110,7 @@ returns-4 c =
     let at = c in
     let words = at in
     let a = words.args in
-    past_none 64 a.mask.now a.from at.loop-i.i (omega (arith, words.words-1.given.0)) at.loop-i.invariant.1
+    past_none 64 a.mask.now a.from at.loop-i.i (omega (arith, words.words-1.given)) at.loop-i.invariant.1
 
 pub next_spec : {M : Type 1} → statement M
 next_spec =

@@ -6,5 +6,5 @@ use Rattle.embed.proofs.promises.table_is_rows.Tie as tie
 returns : tie.Need-returns
 returns c = table_is_rows
 
-pub table-is-rows-spec : {M : Type 1} → statement M
-table-is-rows-spec = tie.close (tie.spec returns)
+pub table_is_rows_spec : {M : Type 1} → statement M
+table_is_rows_spec = tie.close (tie.spec returns)

@@ -6,5 +6,5 @@ use Rattle.embed.proofs.promises.write_embeds.Tie as tie
 returns : tie.Need-returns
 returns c = write_embeds
 
-pub write-embeds-spec : {M : Type 1} → statement M
-write-embeds-spec = tie.close (tie.spec returns)
+pub write_embeds_spec : {M : Type 1} → statement M
+write_embeds_spec = tie.close (tie.spec returns)

@@ -11,91 +11,91 @@ use borrow.Author.Rules.{rules}
 use Rattle.parity.proofs.incidence.enter_word.Statement.{statement}
 use Rattle.parity.proofs.incidence.enter_word.Tie as tie
 
-abbrev invariant-loop : tie.invariant-loop
+abbrev invariant-loop : tie.invariant-loop-rest
 invariant-loop index₀ stride at bit base word rest₀ index rest = (rest ≤ word) × Left stride (bit * 2 ^ (at * 64)) (word * 2 ^ base) index₀ (rest * 2 ^ base) index
 
-abbrev decreases-loop : tie.decreases-loop
+abbrev decreases-loop : tie.decreases-loop-rest
 decreases-loop index₀ stride at bit base word rest₀ index rest = rest
 
-loop-holds : tie.Need-loop-init invariant-loop decreases-loop
+loop-holds : tie.Need-loop-rest-init invariant-loop decreases-loop
 loop-holds c =
     let a = c.args in
     (search rules, left_start a.stride (a.bit * 2 ^ (a.at * 64)) (a.word * 2 ^ a.base) a.index.now c.requires.1)
 
-cast-atom : tie.Need-overflow-cast-atom invariant-loop decreases-loop
-cast-atom c = omega (arith, trailing_le 64 c.before.loop.rest)
+cast-atom : tie.Need-overflow_cast-atom invariant-loop decreases-loop
+cast-atom c = omega (arith, trailing_le 64 c.loop-rest.rest)
 
 -- what a turn's word and bit are known to be
-some : (c : tie.In-loop invariant-loop decreases-loop) → 0 < c.before.loop.rest
-some c = omega (arith, c.loop-test.true)
+some : (c : tie.In-loop-rest invariant-loop decreases-loop) → 0 < c.loop-rest.rest
+some c = omega (arith, c.loop-rest-test.true)
 
-small : (c : tie.In-loop invariant-loop decreases-loop) → c.before.loop.rest < 2 ^ 64
+small : (c : tie.In-loop-rest invariant-loop decreases-loop) → c.loop-rest.rest < 2 ^ 64
 small c = search rules
 
-fits : (c : tie.In-loop invariant-loop decreases-loop) → c.before.before.args.bit < 2 ^ 64
+fits : (c : tie.In-loop-rest invariant-loop decreases-loop) → c.args.bit < 2 ^ 64
 fits c = search rules
 
-within : (c : tie.In-loop invariant-loop decreases-loop)
-    → Within c.before.before.args.stride (c.before.before.args.base + count_trailing_zeros 64 c.before.loop.rest) c.before.loop.index
+within : (c : tie.In-loop-rest invariant-loop decreases-loop)
+    → Within c.args.stride (c.args.base + count_trailing_zeros 64 c.loop-rest.rest) c.loop-rest.index
 within c =
-    let at = c.before in
-    let a = at.before.args in
-    let wide : 0 < a.stride = omega (arith, at.before.requires.0) in
-    bit_within a.stride (a.bit * 2 ^ (a.at * 64)) (a.word * 2 ^ a.base) a.index.now a.base at.loop.rest at.loop.index wide
-    at.loop.invariant.1 (some c) (small c)
+    let at = c in
+    let a = at.args in
+    let wide : 0 < a.stride = omega (arith, at.requires.0) in
+    bit_within a.stride (a.bit * 2 ^ (a.at * 64)) (a.word * 2 ^ a.base) a.index.now a.base at.loop-rest.rest at.loop-rest.index wide
+    at.loop-rest.invariant.1 (some c) (small c)
 
-add-atom : tie.Need-overflow-add-atom invariant-loop decreases-loop
-add-atom c = omega (arith, within c, c.before.loop.invariant.1.kept)
+add-atom : tie.Need-overflow_add-atom invariant-loop decreases-loop
+add-atom c = omega (arith, within c, c.loop-rest.invariant.1.kept)
 
-mul-place : tie.Need-overflow-mul-place invariant-loop decreases-loop
-mul-place c = omega (arith, within c, c.before.loop.invariant.1.kept)
+mul-place : tie.Need-overflow_mul-place invariant-loop decreases-loop
+mul-place c = omega (arith, within c, c.loop-rest.invariant.1.kept)
 
-add-place : tie.Need-overflow-add-place invariant-loop decreases-loop
-add-place c = omega (arith, within c, c.before.loop.invariant.1.kept)
+add-place : tie.Need-overflow_add-place invariant-loop decreases-loop
+add-place c = omega (arith, within c, c.loop-rest.invariant.1.kept)
 
-mul-index : tie.Need-overflow-mul-index invariant-loop decreases-loop
-mul-index c = omega (arith, within c, c.before.loop.invariant.1.kept)
+mul-index : tie.Need-offset_bounds-index-place invariant-loop decreases-loop
+mul-index c = omega (arith, within c, c.loop-rest.invariant.1.kept)
 
-slice-read-index : tie.Need-slice-read-index invariant-loop decreases-loop
+slice-read-index : tie.Need-bounds-index-place invariant-loop decreases-loop
 slice-read-index c = omega (arith, within c.before)
 
-mul-index-2 : tie.Need-overflow-mul-index-2 invariant-loop decreases-loop
-mul-index-2 c = omega (arith, within c.before, c.before.before.loop.invariant.1.kept)
+mul-index-2 : tie.Need-offset_bounds-index-place-in-loop-rest invariant-loop decreases-loop
+mul-index-2 c = omega (arith, within c.before, c.loop-rest.invariant.1.kept)
 
-slice-write-index : tie.Need-slice-write-index invariant-loop decreases-loop
+slice-write-index : tie.Need-bounds-index-place-in-loop-rest invariant-loop decreases-loop
 slice-write-index c = omega (arith, within c.before)
 
-sub-rest : tie.Need-overflow-sub-rest invariant-loop decreases-loop
+sub-rest : tie.Need-overflow_sub-rest invariant-loop decreases-loop
 sub-rest c = search rules
 
-loop-less : tie.Need-loop-smaller invariant-loop decreases-loop
+loop-less : tie.Need-loop-rest-smaller invariant-loop decreases-loop
 loop-less c =
-    let rest = c.before.before.loop.rest in
+    let rest = c.loop-rest.rest in
     omega (arith, some c.before, and_le_r rest (rest - 1))
 
-loop-again : tie.Need-loop-preserved invariant-loop decreases-loop
+loop-again : tie.Need-loop-rest-preserved invariant-loop decreases-loop
 loop-again c =
-    let turn = c.before in
-    let at = turn.before in
-    let a = at.before.args in
-    let rest = at.loop.rest in (
-      omega (arith, at.loop.invariant.0, and_le_r rest (rest - 1)),
-      bit_next a.stride a.bit a.at (a.word * 2 ^ a.base) a.index.now a.base rest at.loop.index at.before.requires.0 (fits turn)
-          at.loop.invariant.1 (some turn) (small turn),
+    let turn = c in
+    let at = turn in
+    let a = at.args in
+    let rest = at.loop-rest.rest in (
+      omega (arith, at.loop-rest.invariant.0, and_le_r rest (rest - 1)),
+      bit_next a.stride a.bit a.at (a.word * 2 ^ a.base) a.index.now a.base rest at.loop-rest.index at.requires.0 (fits turn.before)
+          at.loop-rest.invariant.1 (some turn.before) (small turn.before),
     )
 
-same_length : tie.Need-same-length invariant-loop decreases-loop
-same_length c = c.before.loop.invariant.1.kept
+same_length : tie.Need-shape_of-index invariant-loop decreases-loop
+same_length c = c.loop-rest.invariant.1.kept
 
 returns : tie.Need-returns invariant-loop decreases-loop
 returns c =
-    let at = c.before in
-    let a = at.before.args in
-    let none : at.loop.rest * 2 ^ a.base ≡ 0 = ap (λ (n : ℕ). n * 2 ^ a.base) c.loop-test.false ∙ zero-mul (2 ^ a.base) in
-    left_end a.stride (a.bit * 2 ^ (a.at * 64)) (a.word * 2 ^ a.base) a.index.now (at.loop.rest * 2 ^ a.base) at.loop.index none at.loop.invariant.1
+    let at = c in
+    let a = at.args in
+    let none : at.loop-rest.rest * 2 ^ a.base ≡ 0 = ap (λ (n : ℕ). n * 2 ^ a.base) c.loop-rest-test.false ∙ zero-mul (2 ^ a.base) in
+    left_end a.stride (a.bit * 2 ^ (a.at * 64)) (a.word * 2 ^ a.base) a.index.now (at.loop-rest.rest * 2 ^ a.base) at.loop-rest.index none at.loop-rest.invariant.1
 
-pub enter-word-spec : {M : Type 1} → statement M
-enter-word-spec =
+pub enter_word_spec : {M : Type 1} → statement M
+enter_word_spec =
     tie.close
     (tie.spec
     invariant-loop

@@ -6,5 +6,5 @@ use Rattle.parity.proofs.promises.column_tells.Tie as tie
 returns : tie.Need-returns
 returns c = column_tells
 
-pub column-tells-spec : {M : Type 1} → statement M
-column-tells-spec = tie.close (tie.spec returns)
+pub column_tells_spec : {M : Type 1} → statement M
+column_tells_spec = tie.close (tie.spec returns)

@@ -6,5 +6,5 @@ use Rattle.parity.proofs.promises.prepare_counts.Tie as tie
 returns : tie.Need-returns
 returns c = prepare_counts
 
-pub prepare-counts-spec : {M : Type 1} → statement M
-prepare-counts-spec = tie.close (tie.spec returns)
+pub prepare_counts_spec : {M : Type 1} → statement M
+prepare_counts_spec = tie.close (tie.spec returns)

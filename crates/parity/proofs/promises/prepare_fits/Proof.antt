@@ -6,5 +6,5 @@ use Rattle.parity.proofs.promises.prepare_fits.Tie as tie
 returns : tie.Need-returns
 returns c = prepare_fits
 
-pub prepare-fits-spec : {M : Type 1} → statement M
-prepare-fits-spec = tie.close (tie.spec returns)
+pub prepare_fits_spec : {M : Type 1} → statement M
+prepare_fits_spec = tie.close (tie.spec returns)

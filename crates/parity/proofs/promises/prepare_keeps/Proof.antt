@@ -6,5 +6,5 @@ use Rattle.parity.proofs.promises.prepare_keeps.Tie as tie
 returns : tie.Need-returns
 returns c = prepare_keeps
 
-pub prepare-keeps-spec : {M : Type 1} → statement M
-prepare-keeps-spec = tie.close (tie.spec returns)
+pub prepare_keeps_spec : {M : Type 1} → statement M
+prepare_keeps_spec = tie.close (tie.spec returns)

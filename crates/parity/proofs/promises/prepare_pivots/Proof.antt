@@ -6,5 +6,5 @@ use Rattle.parity.proofs.promises.prepare_pivots.Tie as tie
 returns : tie.Need-returns
 returns c = prepare_pivots
 
-pub prepare-pivots-spec : {M : Type 1} → statement M
-prepare-pivots-spec = tie.close (tie.spec returns)
+pub prepare_pivots_spec : {M : Type 1} → statement M
+prepare_pivots_spec = tie.close (tie.spec returns)

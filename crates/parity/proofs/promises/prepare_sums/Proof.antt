@@ -6,5 +6,5 @@ use Rattle.parity.proofs.promises.prepare_sums.Tie as tie
 returns : tie.Need-returns
 returns c = prepare_sums
 
-pub prepare-sums-spec : {M : Type 1} → statement M
-prepare-sums-spec = tie.close (tie.spec returns)
+pub prepare_sums_spec : {M : Type 1} → statement M
+prepare_sums_spec = tie.close (tie.spec returns)

@@ -21,93 +21,93 @@ row-requires : tie.Need-row-requires
 row-requires c κs = search rules
 
 words_are : (c : tie.After-row) →
-    let a = c.before.before.before.before.before.args in
+    let a = c.args in
     c.row.result.now ≡ row a.width a.rows.now a.number.0
 words_are c =
-    let start = c.before.before.before.before.before in
+    let start = c in
     c.row.ensures ∙ row_words start.args.width start.args.rows.now start.args.number start.requires.1
 
-is-single-requires : tie.Need-is-single-requires
+is-single-requires : tie.Need-is_single-requires
 is-single-requires c κs =
-    let start = c.before.before.before.before.before in
+    let start = c in
     omega (arith, ap length (words_are c), row_length start.args.width start.args.rows.now start.args.number.0 start.requires.1, start.requires.0)
 
 -- what the test tells
-told : (c : tie.After-is-single) →
-    let a = c.before.before.before.before.before.before.args in
-    c.is-single.result ≡ eqb (ones (set_of (row a.width a.rows.now a.number.0))) 1
-told c = c.is-single.ensures ∙ ap (λ (l : List ℕ). eqb (ones (set_of l)) 1) (words_are c.before)
+told : (c : tie.After-is_single) →
+    let a = c.args in
+    c.is_single.result ≡ eqb (ones (set_of (row a.width a.rows.now a.number.0))) 1
+told c = c.is_single.ensures ∙ ap (λ (l : List ℕ). eqb (ones (set_of l)) 1) (words_are c.before)
 
-returns : tie.Need-returns
+returns : tie.Need-returns-then-not-is_single
 returns c =
-    let other = sym (told c.before) ∙ not-true c.before.is-single.result c.if1.true in
+    let other = sym (told c.before) ∙ not-true c.is_single.result c.if-not-is_single.true-raw in
     record { number = rw other refl; atom = rw other refl; constant = rw other refl }
 
-one : (c : tie.Else1) →
-    let a = c.before.before.before.before.before.before.before.args in
+one : (c : tie.Else-not-is_single) →
+    let a = c.args in
     ones (set_of (row a.width a.rows.now a.number.0)) ≡ 1
-one c = eqb-true _ 1 (sym (told c.before) ∙ not-false c.before.is-single.result c.if1.false)
+one c = eqb-true _ 1 (sym (told c.before) ∙ not-false c.is_single.result c.if-not-is_single.false-raw)
 
-lowest-atom-requires : tie.Need-lowest-atom-requires
+lowest-atom-requires : tie.Need-lowest_atom-requires
 lowest-atom-requires c κs = search rules
 
-enum-known-atom : tie.Need-enum-known-atom
+enum-known-atom : tie.Need-enum_known-atom
 enum-known-atom c = search rules
 
-mul-atoms : tie.Need-overflow-mul-atoms
+mul-atoms : tie.Need-offset_bounds-atoms-at
 mul-atoms c = search rules
 
-slice-write-atoms : tie.Need-slice-write-atoms
+slice-write-atoms : tie.Need-bounds-atoms-at
 slice-write-atoms c = search rules
 
-shared-slice-read-values : tie.Need-shared-slice-read-values
+shared-slice-read-values : tie.Need-bounds-constants-source
 shared-slice-read-values c = search rules
 
-slice-write-values : tie.Need-slice-write-values
+slice-write-values : tie.Need-bounds-values-at
 slice-write-values c = search rules
 
-add-result : tie.Need-overflow-add-result
+add-result : tie.Need-overflow_add-result
 add-result c = search rules
 
-enum_told : tie.Need-enum-told
+enum_told : tie.Need-enum_told-1
 enum_told c = search rules
 
-enum-told-2 : tie.Need-enum-told-2
+enum-told-2 : tie.Need-enum_told-in-Outside
 enum-told-2 c = search rules
 
-same_length : tie.Need-same-length
+same_length : tie.Need-shape_of-atoms
 same_length c = search rules
 
-same-length-2 : tie.Need-same-length-2
+same-length-2 : tie.Need-shape_of-values
 same-length-2 c = search rules
 
-returns-2 : tie.Need-returns-2
+returns-2 : tie.Need-returns-in-At
 returns-2 c =
-    let arm = c.before.before in
-    let called = arm.before.before in
-    let else = called.before in
-    let start = else.before.before.before.before.before.before.before in
+    let arm = c in
+    let called = arm in
+    let else = called in
+    let start = else in
     let a = start.args in
-    let single : eqb (ones (set_of (row a.width a.rows.now a.number.0))) 1 ≡ true = eq-eqb _ 1 (one else) in
-    let lowest = lowest_is a.width a.rows.now a.number start.requires.0 start.requires.1 (one else) called.lowest-atom.result called.lowest-atom.ensures arm.atom.given.0.0 arm.atom.given.1 in
+    let single : eqb (ones (set_of (row a.width a.rows.now a.number.0))) 1 ≡ true = eq-eqb _ 1 (one else.before.before.before) in
+    let lowest = lowest_is a.width a.rows.now a.number start.requires.0 start.requires.1 (one else.before.before.before) called.lowest_atom.result called.lowest_atom.ensures arm.in-At.atom arm.in-At.is in
     record { number = rw single refl; atom = rw (single, lowest) refl; constant = rw single refl }
 
-returns-3 : tie.Need-returns-3
+returns-3 : tie.Need-returns-in-Empty
 returns-3 c =
-    let called = c.before.before in
-    let start = called.before.before.before.before.before.before.before.before in
+    let called = c in
+    let start = called in
     let a = start.args in
-    absurd (lowest_some a.width a.rows.now a.number start.requires.0 start.requires.1 (one called.before) called.lowest-atom.result called.lowest-atom.ensures c.enum_told.given.1)
+    absurd (lowest_some a.width a.rows.now a.number start.requires.0 start.requires.1 (one called.before.before) called.lowest_atom.result called.lowest_atom.ensures c.in-Empty.is)
 
-returns-4 : tie.Need-returns-4
+returns-4 : tie.Need-returns-in-Outside
 returns-4 c =
-    let called = c.before.before in
-    let start = called.before.before.before.before.before.before.before.before in
+    let called = c in
+    let start = called in
     let a = start.args in
-    absurd (lowest_inside a.width a.rows.now a.number start.requires.0 start.requires.1 (one called.before) called.lowest-atom.result called.lowest-atom.ensures c.enum-told2.given.1)
+    absurd (lowest_inside a.width a.rows.now a.number start.requires.0 start.requires.1 (one called.before.before) called.lowest_atom.result called.lowest_atom.ensures c.in-Outside.is)
 
-pub write-unit-spec : {M : Type 1} → statement M
-write-unit-spec =
+pub write_unit_spec : {M : Type 1} → statement M
+write_unit_spec =
     tie.close
     (tie.spec
     row-requires

@@ -22,7 +22,7 @@ decide-number-requires c κs = search rules
 
 returns : tie.Need-returns-then-number-ne0
 unfolding hold_of
-returns c = refused c.args.t1 c.args.atom _ c.decide_number-number.ensures true c.if-number-ne0.true
+returns c = refused c.args.self c.args.atom _ c.decide_number-number.ensures true c.if-number-ne0.true
 
 mask-requires : tie.Need-mask-requires
 mask-requires c κs = search rules
@@ -32,11 +32,11 @@ contains-requires c κs = search rules
 
 -- what a mask is asked is whether the atom is in it
 looked : (c : tie.After-contains)
-    → let a = c.args in c.contains.result ≡ has (set_of a.t1.held) a.atom.0
+    → let a = c.args in c.contains.result ≡ has (set_of a.self.held) a.atom.0
 looked c = c.contains.ensures ∙ ap (λ (l : List ℕ). has (set_of l) c.args.atom.0) c.mask.ensures
 
 looked2 : (c : tie.After-contains-2)
-    → let a = c.args in c.contains-2.result ≡ has (set_of a.t1.cut) a.atom.0
+    → let a = c.args in c.contains-2.result ≡ has (set_of a.self.cut) a.atom.0
 looked2 c = c.contains-2.ensures ∙ ap (λ (l : List ℕ). has (set_of l) c.args.atom.0) c.mask-2.ensures
 
 returns-2 : tie.Need-returns-then-contains
@@ -44,7 +44,7 @@ unfolding hold_of
 returns-2 c =
     let checked = c in
     let start = checked in
-    same start.args.t1 start.args.atom _ checked.decide_number-number.ensures checked.if-number-ne0.false (eight_of start.args.t1 _ start.well_formed.0) true
+    same start.args.self start.args.atom _ checked.decide_number-number.ensures checked.if-number-ne0.false (eight_of start.args.self _ start.well_formed.0) true
     (sym (looked c.before) ∙ c.if-contains.true)
 
 mask-requires-2 : tie.Need-mask-requires-2
@@ -59,7 +59,7 @@ returns-3 c =
     let other = c in
     let checked = other in
     let start = checked in
-    against start.args.t1 start.args.atom _ checked.decide_number-number.ensures checked.if-number-ne0.false (eight_of start.args.t1 _ start.well_formed.0) true
+    against start.args.self start.args.atom _ checked.decide_number-number.ensures checked.if-number-ne0.false (eight_of start.args.self _ start.well_formed.0) true
     (sym (looked2 c.before) ∙ c.if-contains-2.true)
 
 locate-requires : tie.Need-locate-place-requires
@@ -73,7 +73,7 @@ word c =
     omega (
       arith,
       ap (λ (p : Place). p.word) c.locate-place.ensures,
-      word_in start.args.t1 start.args.atom _ checked.decide_number-number.ensures checked.if-number-ne0.false,
+      word_in start.args.self start.args.atom _ checked.decide_number-number.ensures checked.if-number-ne0.false,
     )
 
 mul-self : tie.Need-offset_bounds-self-word
@@ -96,7 +96,7 @@ returns-4 c =
     let other = free in
     let checked = other in
     let start = checked in
-    let r = start.args.t1 in
+    let r = start.args.self in
     ap (λ (p : Place). said (record { atoms = r.atoms; held = set r.held p.word (bit_or (get_or r.held p.word 0) p.bit); cut = r.cut }) Taken)
     located.locate-place.ensures
     ∙ taken r start.args.atom _ checked.decide_number-number.ensures checked.if-number-ne0.false (eight_of r _ start.well_formed.0) true
