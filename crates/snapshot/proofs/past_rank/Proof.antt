@@ -6,14 +6,14 @@ use borrow.Author.Rules.{rules}
 use Rattle.snapshot.proofs.past_rank.Statement.{statement}
 use Rattle.snapshot.proofs.past_rank.Tie as tie
 
-returns : tie.Need-returns
+returns : tie.Need-returns-then-system
 returns c = search rules
 
-column-number-requires : tie.Need-column-number-requires
+column-number-requires : tie.Need-column_number-requires
 column-number-requires c κs = search rules
 
-returns-2 : tie.Need-returns-2
-returns-2 c = simp c.before.if1.false (ap (λ (k : ℕ). eqb k 14) c.column-number.ensures)
+returns-2 : tie.Need-returns
+returns-2 c = simp c.if-system.false (ap (λ (k : ℕ). eqb k 14) c.column_number.ensures)
 
-pub past-rank-spec : {M : Type 1} → statement M
-past-rank-spec = tie.close (tie.spec returns column-number-requires returns-2)
+pub past_rank_spec : {M : Type 1} → statement M
+past_rank_spec = tie.close (tie.spec returns column-number-requires returns-2)

@@ -12,30 +12,30 @@ use borrow.Author.Rules.{rules}
 use Rattle.snapshot.proofs.touched.Statement.{statement}
 use Rattle.snapshot.proofs.touched.Tie as tie
 
-unfit-requires : tie.Need-unfit-requires
+unfit-requires : tie.Need-unfit-number-requires
 unfit-requires c κs = search rules
 
-returns : tie.Need-returns
+returns : tie.Need-returns-then-number-ne0
 unfolding selected_of ordinals_of unpack mask_of
 returns c =
-    let call = c.before in
-    let a = call.before.before.args in
+    let call = c in
+    let a = call.args in
     let answer : Selected = record { number = 0; rows = ordinals_of (touched_of a.system.rank a.index.now a.region a.known) } in
     let refused : ℕ → Selected = λ number. record { number = number; rows = ordinals_of [] } in
-    refused_is call.unfit.result answer refused c.if1.true ∙ ap (λ (k : ℕ). or_refused k answer refused) call.unfit.ensures
+    refused_is call.unfit-number.result answer refused c.if-number-ne0.true ∙ ap (λ (k : ℕ). or_refused k answer refused) call.unfit-number.ensures
 
 select-requires : tie.Need-select-requires
 select-requires c κs = search rules
 
-returns-2 : tie.Need-returns-2
+returns-2 : tie.Need-returns
 unfolding selected_of
 returns-2 c =
-    let call = c.before.before in
-    let a = call.before.before.args in
+    let call = c in
+    let a = call.args in
     let answer : Selected = record { number = 0; rows = ordinals_of (touched_of a.system.rank a.index.now a.region a.known) } in
     let refused : ℕ → Selected = λ number. record { number = number; rows = ordinals_of [] } in
     ap (λ (o : Ordinals). let t : Selected = record { number = 0; rows = o } in t) c.select.ensures
-    ∙ sym (ap (λ (k : ℕ). or_refused k answer refused) (sym call.unfit.ensures ∙ c.before.if1.false))
+    ∙ sym (ap (λ (k : ℕ). or_refused k answer refused) (sym call.unfit-number.ensures ∙ c.if-number-ne0.false))
 
-pub touched-spec : {M : Type 1} → statement M
-touched-spec = tie.close (tie.spec unfit-requires returns select-requires returns-2)
+pub touched_spec : {M : Type 1} → statement M
+touched_spec = tie.close (tie.spec unfit-requires returns select-requires returns-2)

@@ -25,35 +25,35 @@ yes-is : (l r : List ℕ) → length l ≡ 8 → length r ≡ 8 → is_yes (subs
 unfolding subset_of
 yes-is l r hl hr = simp (hl, hr) (judged-yes (subset (set_of l) (set_of r)))
 
-answer : (c : tie.After-is-subset-of)
-    → is_yes c.is-subset-of.result ≡ subset (set_of c.before.before.before.args.left.now) (set_of c.before.before.before.args.right.now)
+answer : (c : tie.After-is_subset_of)
+    → is_yes c.is_subset_of.result ≡ subset (set_of c.args.left.now) (set_of c.args.right.now)
 answer c =
-    let a = c.before.before.before.args in
-    ap is_yes c.is-subset-of.ensures
-    ∙ yes-is a.left.now a.right.now c.before.before.is-subset-of-arg.given.0 c.before.is-subset-of-arg2.given.0
+    let a = c.args in
+    ap is_yes c.is_subset_of.ensures
+    ∙ yes-is a.left.now a.right.now c.told-left c.told-right
 
-is-subset-of-requires : tie.Need-is-subset-of-requires
+is-subset-of-requires : tie.Need-is_subset_of-requires
 is-subset-of-requires c κs = search rules
 
-enum_told : tie.Need-enum-told
+enum_told : tie.Need-enum_told-1
 enum_told c = search rules
 
-enum-told-2 : tie.Need-enum-told-2
+enum-told-2 : tie.Need-enum_told-in-No
 enum-told-2 c = search rules
 
-enum-told-3 : tie.Need-enum-told-3
+enum-told-3 : tie.Need-enum_told-in-Unequal
 enum-told-3 c = search rules
 
-returns : tie.Need-returns
-returns c = sym (ap is_yes c.enum_told.given.1) ∙ answer c.before.before
+returns : tie.Need-returns-in-Yes
+returns c = sym (ap is_yes c.in-Yes.is) ∙ answer c.before
 
-returns-2 : tie.Need-returns-2
-returns-2 c = sym (ap is_yes c.enum-told2.given.1) ∙ answer c.before.before
+returns-2 : tie.Need-returns-in-No
+returns-2 c = sym (ap is_yes c.in-No.is) ∙ answer c.before
 
-returns-3 : tie.Need-returns-3
-returns-3 c = sym (ap is_yes c.enum-told3.given.1) ∙ answer c.before.before
+returns-3 : tie.Need-returns-in-Unequal
+returns-3 c = sym (ap is_yes c.in-Unequal.is) ∙ answer c.before
 
-pub within-spec : {M : Type 1} → statement M
-within-spec =
+pub within_spec : {M : Type 1} → statement M
+within_spec =
     tie.close
     (tie.spec is-subset-of-requires enum_told enum-told-2 enum-told-3 returns returns-2 returns-3)

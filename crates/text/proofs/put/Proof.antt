@@ -8,47 +8,47 @@ use borrow.Author.Rules.{rules}
 use Rattle.text.proofs.put.Statement.{statement}
 use Rattle.text.proofs.put.Tie as tie
 
-abbrev invariant-loop : tie.invariant-loop
+abbrev invariant-loop : tie.invariant-loop-i
 invariant-loop out₀ at word place₀ i₀ out place i = (i ≤ length word) × Wrote out₀ at (take i word) out place
 
-abbrev decreases-loop : tie.decreases-loop
+abbrev decreases-loop : tie.decreases-loop-i
 decreases-loop out₀ at word place₀ i₀ out place i = length word - i
 
-least-requires : tie.Need-least-requires invariant-loop decreases-loop
+least-requires : tie.Need-least-place-requires invariant-loop decreases-loop
 least-requires c κs = search rules
 
-loop-holds : tie.Need-loop-init invariant-loop decreases-loop
+loop-holds : tie.Need-loop-i-init invariant-loop decreases-loop
 loop-holds c =
-    let a = c.before.before.before.args in
-    (search rules, wrote_start a.out.now a.at c.least.ensures)
+    let a = c.args in
+    (search rules, wrote_start a.out.now a.at c.least-place.ensures)
 
-shared-slice-read-put-byte : tie.Need-shared-slice-read-put-byte invariant-loop decreases-loop
+shared-slice-read-put-byte : tie.Need-bounds-word-i invariant-loop decreases-loop
 shared-slice-read-put-byte c = search rules
 
-put-byte-requires : tie.Need-put-byte-requires invariant-loop decreases-loop
+put-byte-requires : tie.Need-put_byte-place-requires invariant-loop decreases-loop
 put-byte-requires c κs = search rules
 
-add-i : tie.Need-overflow-add-i invariant-loop decreases-loop
+add-i : tie.Need-overflow_add-i invariant-loop decreases-loop
 add-i c = search rules
 
-loop-less : tie.Need-loop-smaller invariant-loop decreases-loop
+loop-less : tie.Need-loop-i-smaller invariant-loop decreases-loop
 loop-less c = search rules
 
-loop-again : tie.Need-loop-preserved invariant-loop decreases-loop
+loop-again : tie.Need-loop-i-preserved invariant-loop decreases-loop
 loop-again c =
-    let call = c.before.before in
-    let turn = call.before.before.before in
-    let at = turn.before in
-    let word = at.before.before.before.before.args.word.now in
-    (omega arith, wrote_next word at.loop.i turn.loop-test.true at.loop.invariant.1 call.put_byte.ensures)
+    let call = c in
+    let turn = call in
+    let at = turn in
+    let word = at.args.word.now in
+    (omega arith, wrote_next word at.loop-i.i turn.loop-i-test.true at.loop-i.invariant.1 call.put_byte-place.ensures)
 
-same_length : tie.Need-same-length invariant-loop decreases-loop
-same_length c = wrote_length c.before.loop.invariant.1
+same_length : tie.Need-shape_of-out invariant-loop decreases-loop
+same_length c = wrote_length c.loop-i.invariant.1
 
 returns : tie.Need-returns invariant-loop decreases-loop
 returns c =
-    let at = c.before in
-    wrote_all at.before.before.before.before.args.word.now at.loop.i c.loop-test.false at.loop.invariant.1
+    let at = c in
+    wrote_all at.args.word.now at.loop-i.i c.loop-i-test.false at.loop-i.invariant.1
 
 pub put_spec : {M : Type 1} → statement M
 put_spec =

@@ -5,29 +5,29 @@ use borrow.Author.Rules.{rules}
 use Rattle.text.proofs.put_two.Statement.{statement}
 use Rattle.text.proofs.put_two.Tie as tie
 
-put-requires : tie.Need-put-requires
+put-requires : tie.Need-put-number-requires
 put-requires c κs = search rules
 
-put-decimal-requires : tie.Need-put-decimal-requires
+put-decimal-requires : tie.Need-put_decimal-rest-requires
 put-decimal-requires c κs = search rules
 
-put-one-requires : tie.Need-put-one-requires
+put-one-requires : tie.Need-put_one-requires
 put-one-requires c κs = search rules
 
-same_length : tie.Need-same-length
+same_length : tie.Need-shape_of-out
 same_length c =
-    let last = c.before.before in
-    let number = last.before.before.before.before in
-    let first = number.before.before.before.before in
-    wrote_length last.put_one.ensures ∙ wrote_length number.put-decimal.ensures ∙ wrote_length first.put.ensures
+    let last = c in
+    let number = last in
+    let first = number in
+    wrote_length last.put_one.ensures ∙ wrote_length number.put_decimal-rest.ensures ∙ wrote_length first.put-number.ensures
 
 returns : tie.Need-returns
 returns c =
-    let last = c.before.before in
-    let number = last.before.before.before.before in
-    let first = number.before.before.before.before in
-    wrote_both first.put.ensures (wrote_both number.put-decimal.ensures last.put_one.ensures)
+    let last = c in
+    let number = last in
+    let first = number in
+    wrote_both first.put-number.ensures (wrote_both number.put_decimal-rest.ensures last.put_one.ensures)
 
-pub put-two-spec : {M : Type 1} → statement M
-put-two-spec =
+pub put_two_spec : {M : Type 1} → statement M
+put_two_spec =
     tie.close (tie.spec put-requires put-decimal-requires put-one-requires same_length returns)

@@ -6,11 +6,11 @@ use Rattle.record.proofs.faults.unless.Tie as tie
 none-requires : tie.Need-none-requires
 none-requires c κs = search rules
 
-returns : tie.Need-returns
+returns : tie.Need-returns-then-holds
 returns c = search rules
 
-returns-2 : tie.Need-returns-2
-returns-2 c = simp c.if1.false
+returns-2 : tie.Need-returns
+returns-2 c = simp c.if-holds.false
 
-pub unless-spec : {M : Type 1} → statement M
-unless-spec = tie.close (tie.spec none-requires returns returns-2)
+pub unless_spec : {M : Type 1} → statement M
+unless_spec = tie.close (tie.spec none-requires returns returns-2)

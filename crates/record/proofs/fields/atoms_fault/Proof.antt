@@ -10,7 +10,7 @@ use borrow.Author.Rules.{rules}
 use Rattle.record.proofs.fields.atoms_fault.Statement.{statement}
 use Rattle.record.proofs.fields.atoms_fault.Tie as tie
 
-good-atoms-requires : tie.Need-good-atoms-requires
+good-atoms-requires : tie.Need-good_atoms-requires
 good-atoms-requires c κs = search rules
 
 unless-requires : tie.Need-unless-requires
@@ -19,9 +19,9 @@ unless-requires c κs = search rules
 returns : tie.Need-returns
 unfolding atoms_fault
 returns c =
-    let a = c.before.before.before.args in
+    let a = c.args in
     c.unless.ensures
-    ∙ ap (λ (t : Bool). unless t 4 a.o) (ap₂ eqb c.before.good-atoms.ensures (sym (list_length (atom_at a.file.now a.o) 0 a.count)))
+    ∙ ap (λ (t : Bool). unless t 4 a.o) (ap₂ eqb c.good_atoms.ensures (sym (list_length (atom_at a.file.now a.o) 0 a.count)))
 
-pub atoms-fault-spec : {M : Type 1} → statement M
-atoms-fault-spec = tie.close (tie.spec good-atoms-requires unless-requires returns)
+pub atoms_fault_spec : {M : Type 1} → statement M
+atoms_fault_spec = tie.close (tie.spec good-atoms-requires unless-requires returns)

@@ -16,7 +16,7 @@ unless-requires c κs = search rules
 
 returns : tie.Need-returns
 unfolding count_fault
-returns c = c.unless.ensures ∙ ap (λ (n : ℕ). unless (leb n 512) 4 c.before.before.before.args.o) c.before.short.ensures.0
+returns c = c.unless.ensures ∙ ap (λ (n : ℕ). unless (leb n 512) 4 c.args.o) c.short.ensures.0
 
-pub count-fault-spec : {M : Type 1} → statement M
-count-fault-spec = tie.close (tie.spec short-requires unless-requires returns)
+pub count_fault_spec : {M : Type 1} → statement M
+count_fault_spec = tie.close (tie.spec short-requires unless-requires returns)

@@ -12,32 +12,32 @@ use Rattle.record.proofs.fields.decision_fault.Tie as tie
 short-requires : tie.Need-short-requires
 short-requires c κs = search rules
 
-unless-requires : tie.Need-unless-requires
+unless-requires : tie.Need-unless-atom-requires
 unless-requires c κs = search rules
 
-returns : tie.Need-returns
+returns : tie.Need-returns-then-atom-ne0
 unfolding decision_fault
 returns c =
-    let made = c.before.before in
-    let a = made.before.before.before.args in
-    stop _ (made.unless.ensures ∙ ap (λ (x : ℕ). unless (ltb x a.n) 4 a.o) made.before.short.ensures.0) c.if1.true
+    let made = c in
+    let a = made.args in
+    stop _ (made.unless-atom.ensures ∙ ap (λ (x : ℕ). unless (ltb x a.n) 4 a.o) made.short.ensures.0) c.if-atom-ne0.true
 
 byte-requires : tie.Need-byte-requires
 byte-requires c κs = search rules
 
-unless-requires-2 : tie.Need-unless-requires-2
+unless-requires-2 : tie.Need-unless-requires
 unless-requires-2 c κs = search rules
 
-returns-2 : tie.Need-returns-2
+returns-2 : tie.Need-returns
 unfolding decision_fault
 returns-2 c =
-    let other = c.before.before in
-    let made = other.before.before in
-    let a = made.before.before.before.args in
-    pass _ (made.unless.ensures ∙ ap (λ (x : ℕ). unless (ltb x a.n) 4 a.o) made.before.short.ensures.0) other.if1.false
-    (c.unless2.ensures ∙ ap (λ (x : ℕ). unless (leb x 1) 4 a.o) c.before.byte.ensures.0)
+    let other = c in
+    let made = other in
+    let a = made.args in
+    pass _ (made.unless-atom.ensures ∙ ap (λ (x : ℕ). unless (ltb x a.n) 4 a.o) made.short.ensures.0) other.if-atom-ne0.false
+    (c.unless.ensures ∙ ap (λ (x : ℕ). unless (leb x 1) 4 a.o) c.byte.ensures.0)
 
-pub decision-fault-spec : {M : Type 1} → statement M
-decision-fault-spec =
+pub decision_fault_spec : {M : Type 1} → statement M
+decision_fault_spec =
     tie.close
     (tie.spec short-requires unless-requires returns byte-requires unless-requires-2 returns-2)

@@ -11,55 +11,55 @@ use borrow.Author.Rules.{rules}
 use Rattle.record.proofs.fields.good_atoms.Statement.{statement}
 use Rattle.record.proofs.fields.good_atoms.Tie as tie
 
-abbrev invariant-loop : tie.invariant-loop
+abbrev invariant-loop : tie.invariant-loop-i
 invariant-loop file n o count i₀ i = (i ≤ count) × (i + good_atoms n (list_from (atom_at file o) i (count - i)) ≡ good_atoms n (list_from (atom_at file o) 0 count))
 
-abbrev decreases-loop : tie.decreases-loop
+abbrev decreases-loop : tie.decreases-loop-i
 decreases-loop file n o count i₀ i = count - i
 
-loop-holds : tie.Need-loop-init invariant-loop decreases-loop
+loop-holds : tie.Need-loop-i-init invariant-loop decreases-loop
 loop-holds c =
-    let a = c.before.args in
+    let a = c.args in
     let all : a.count - 0 ≡ a.count = omega arith in
     (search rules, zero-add _ ∙ ap (λ (n : ℕ). good_atoms a.n (list_from (atom_at a.file.now a.o) 0 n)) all)
 
-mul-short : tie.Need-overflow-mul-short invariant-loop decreases-loop
+mul-short : tie.Need-overflow_mul-i invariant-loop decreases-loop
 mul-short c = search rules
 
-add-short : tie.Need-overflow-add-short invariant-loop decreases-loop
+add-short : tie.Need-overflow_add-i invariant-loop decreases-loop
 add-short c = search rules
 
 short-requires : tie.Need-short-requires invariant-loop decreases-loop
 short-requires c κs = search rules
 
-returns : tie.Need-returns invariant-loop decreases-loop
+returns : tie.Need-returns-then-n-short invariant-loop decreases-loop
 returns c =
-    let call = c.before in
-    let at = call.before.before in
-    let a = at.before.before.args in
-    sym (sym at.loop.invariant.1 ∙ good_found (atom_at a.file.now a.o) at.loop.i a.count a.n call.before.loop-test.true (omega (arith, call.short.ensures.0, c.if1.true)))
+    let call = c in
+    let at = call in
+    let a = at.args in
+    sym (sym at.loop-i.invariant.1 ∙ good_found (atom_at a.file.now a.o) at.loop-i.i a.count a.n call.loop-i-test.true (omega (arith, call.short.ensures.0, c.if-n-short.true)))
 
-add-i : tie.Need-overflow-add-i invariant-loop decreases-loop
+add-i : tie.Need-overflow_add-i-in-loop-i invariant-loop decreases-loop
 add-i c = search rules
 
-loop-less : tie.Need-loop-smaller invariant-loop decreases-loop
+loop-less : tie.Need-loop-i-smaller invariant-loop decreases-loop
 loop-less c = search rules
 
-loop-again : tie.Need-loop-preserved invariant-loop decreases-loop
+loop-again : tie.Need-loop-i-preserved invariant-loop decreases-loop
 loop-again c =
-    let call = c.before in
-    let at = call.before.before in
-    let a = at.before.before.args in
-    (omega arith, good_next (atom_at a.file.now a.o) at.loop.i a.count a.n call.before.loop-test.true (omega (arith, call.short.ensures.0, c.if1.false)) ∙ at.loop.invariant.1)
+    let call = c in
+    let at = call in
+    let a = at.args in
+    (omega arith, good_next (atom_at a.file.now a.o) at.loop-i.i a.count a.n call.loop-i-test.true (omega (arith, call.short.ensures.0, c.if-n-short.false)) ∙ at.loop-i.invariant.1)
 
-returns-2 : tie.Need-returns-2 invariant-loop decreases-loop
+returns-2 : tie.Need-returns invariant-loop decreases-loop
 returns-2 c =
-    let at = c.before in
-    let a = at.before.before.args in
-    sym (sym at.loop.invariant.1 ∙ good_all (atom_at a.file.now a.o) at.loop.i a.count a.n (omega arith) at.loop.invariant.0)
+    let at = c in
+    let a = at.args in
+    sym (sym at.loop-i.invariant.1 ∙ good_all (atom_at a.file.now a.o) at.loop-i.i a.count a.n (omega arith) at.loop-i.invariant.0)
 
-pub good-atoms-spec : {M : Type 1} → statement M
-good-atoms-spec =
+pub good_atoms_spec : {M : Type 1} → statement M
+good_atoms_spec =
     tie.close
     (tie.spec
     invariant-loop

@@ -10,56 +10,56 @@ use borrow.Author.Rules.{rules}
 use Rattle.record.proofs.fields.range_fault.Statement.{statement}
 use Rattle.record.proofs.fields.range_fault.Tie as tie
 
-count-fault-requires : tie.Need-count-fault-requires
+count-fault-requires : tie.Need-count_fault-requires
 count-fault-requires c κs = search rules
 
-returns : tie.Need-returns
+returns : tie.Need-returns-then-kind-eq1
 unfolding range_fault
-returns c = simp (eq-eqb _ _ c.before.if1.true) c.count-fault.ensures
+returns c = simp (eq-eqb _ _ c.if-kind-eq1.true) c.count_fault.ensures
 
-row-fault-requires : tie.Need-row-fault-requires
+row-fault-requires : tie.Need-row_fault-requires
 row-fault-requires c κs = search rules
 
-returns-2 : tie.Need-returns-2
+returns-2 : tie.Need-returns-then-kind-eq2
 unfolding range_fault
-returns-2 c = simp (ne_eqb _ _ c.before.before.if1.false, eq-eqb _ _ c.before.if2.true) c.row-fault.ensures
+returns-2 c = simp (ne_eqb _ _ c.if-kind-eq1.false, eq-eqb _ _ c.if-kind-eq2.true) c.row_fault.ensures
 
 byte-requires : tie.Need-byte-requires
 byte-requires c κs = search rules
 
-atoms-fault-requires : tie.Need-atoms-fault-requires
+atoms-fault-requires : tie.Need-atoms_fault-requires
 atoms-fault-requires c κs = omega (arith, c.byte.ensures.1)
 
-returns-3 : tie.Need-returns-3
+returns-3 : tie.Need-returns-then-kind-eq3
 unfolding range_fault
 returns-3 c =
-    let test = c.before.before in
-    let a = test.before.before.before.before.args in
-    simp (ne_eqb _ _ test.before.before.if1.false, ne_eqb _ _ test.before.if2.false, eq-eqb _ _ test.if3.true)
-    (c.atoms-fault.ensures ∙ ap (λ (n : ℕ). atoms_fault a.n (list_from (atom_at a.file.now a.o) 0 n) a.o) c.before.byte.ensures.0)
+    let test = c in
+    let a = test.args in
+    simp (ne_eqb _ _ test.if-kind-eq1.false, ne_eqb _ _ test.if-kind-eq2.false, eq-eqb _ _ test.if-kind-eq3.true)
+    (c.atoms_fault.ensures ∙ ap (λ (n : ℕ). atoms_fault a.n (list_from (atom_at a.file.now a.o) 0 n) a.o) c.byte.ensures.0)
 
-decision-fault-requires : tie.Need-decision-fault-requires
+decision-fault-requires : tie.Need-decision_fault-requires
 decision-fault-requires c κs = search rules
 
-returns-4 : tie.Need-returns-4
+returns-4 : tie.Need-returns-then-kind-eq4
 unfolding range_fault
 returns-4 c =
-    let test = c.before in
-    simp (ne_eqb _ _ test.before.before.before.if1.false, ne_eqb _ _ test.before.before.if2.false, ne_eqb _ _ test.before.if3.false, eq-eqb _ _ test.if4.true)
-    c.decision-fault.ensures
+    let test = c in
+    simp (ne_eqb _ _ test.if-kind-eq1.false, ne_eqb _ _ test.if-kind-eq2.false, ne_eqb _ _ test.if-kind-eq3.false, eq-eqb _ _ test.if-kind-eq4.true)
+    c.decision_fault.ensures
 
 none-requires : tie.Need-none-requires
 none-requires c κs = search rules
 
-returns-5 : tie.Need-returns-5
+returns-5 : tie.Need-returns
 unfolding range_fault
 returns-5 c =
-    let test = c.before in
-    simp (ne_eqb _ _ test.before.before.before.if1.false, ne_eqb _ _ test.before.before.if2.false, ne_eqb _ _ test.before.if3.false, ne_eqb _ _ test.if4.false)
+    let test = c in
+    simp (ne_eqb _ _ test.if-kind-eq1.false, ne_eqb _ _ test.if-kind-eq2.false, ne_eqb _ _ test.if-kind-eq3.false, ne_eqb _ _ test.if-kind-eq4.false)
     c.none.ensures
 
-pub range-fault-spec : {M : Type 1} → statement M
-range-fault-spec =
+pub range_fault_spec : {M : Type 1} → statement M
+range_fault_spec =
     tie.close
     (tie.spec
     count-fault-requires

@@ -11,58 +11,58 @@ use borrow.Author.Rules.{rules}
 use Rattle.record.proofs.fields.rising_atoms.Statement.{statement}
 use Rattle.record.proofs.fields.rising_atoms.Tie as tie
 
-abbrev invariant-loop : tie.invariant-loop
+abbrev invariant-loop : tie.invariant-loop-i
 invariant-loop file o count from₀ i₀ from i = (i ≤ count) × (i + rising_atoms from (list_from (atom_at file o) i (count - i)) ≡ rising_atoms 0 (list_from (atom_at file o) 0 count)) × (from ≤ 65536)
 
-abbrev decreases-loop : tie.decreases-loop
+abbrev decreases-loop : tie.decreases-loop-i
 decreases-loop file o count from₀ i₀ from i = count - i
 
-loop-holds : tie.Need-loop-init invariant-loop decreases-loop
+loop-holds : tie.Need-loop-i-init invariant-loop decreases-loop
 loop-holds c =
-    let a = c.before.args in
+    let a = c.args in
     let all : a.count - 0 ≡ a.count = omega arith in
     (search rules, zero-add _ ∙ ap (λ (n : ℕ). rising_atoms 0 (list_from (atom_at a.file.now a.o) 0 n)) all, search rules)
 
-mul-short : tie.Need-overflow-mul-short invariant-loop decreases-loop
+mul-short : tie.Need-overflow_mul-i invariant-loop decreases-loop
 mul-short c = search rules
 
-add-short : tie.Need-overflow-add-short invariant-loop decreases-loop
+add-short : tie.Need-overflow_add-i invariant-loop decreases-loop
 add-short c = search rules
 
-short-requires : tie.Need-short-requires invariant-loop decreases-loop
+short-requires : tie.Need-short-atom-requires invariant-loop decreases-loop
 short-requires c κs = search rules
 
-returns : tie.Need-returns invariant-loop decreases-loop
+returns : tie.Need-returns-then-atom-from invariant-loop decreases-loop
 returns c =
-    let call = c.before in
-    let at = call.before.before in
-    let a = at.before.before.args in
-    sym (sym at.loop.invariant.1 ∙ rising_found (atom_at a.file.now a.o) at.loop.i a.count at.loop.from call.before.loop-test.true (omega (arith, call.short.ensures.0, c.if1.true)))
+    let call = c in
+    let at = call in
+    let a = at.args in
+    sym (sym at.loop-i.invariant.1 ∙ rising_found (atom_at a.file.now a.o) at.loop-i.i a.count at.loop-i.from call.loop-i-test.true (omega (arith, call.short-atom.ensures.0, c.if-atom-from.true)))
 
-add-from : tie.Need-overflow-add-from invariant-loop decreases-loop
+add-from : tie.Need-overflow_add-from invariant-loop decreases-loop
 add-from c = search rules
 
-add-i : tie.Need-overflow-add-i invariant-loop decreases-loop
+add-i : tie.Need-overflow_add-i-in-loop-i invariant-loop decreases-loop
 add-i c = search rules
 
-loop-less : tie.Need-loop-smaller invariant-loop decreases-loop
+loop-less : tie.Need-loop-i-smaller invariant-loop decreases-loop
 loop-less c = search rules
 
-loop-again : tie.Need-loop-preserved invariant-loop decreases-loop
+loop-again : tie.Need-loop-i-preserved invariant-loop decreases-loop
 loop-again c =
-    let call = c.before in
-    let at = call.before.before in
-    let a = at.before.before.args in
-    (omega arith, ap (λ (x : ℕ). at.loop.i + 1 + rising_atoms (x + 1) (list_from (atom_at a.file.now a.o) (at.loop.i + 1) (a.count - (at.loop.i + 1)))) call.short.ensures.0 ∙ rising_next (atom_at a.file.now a.o) at.loop.i a.count at.loop.from call.before.loop-test.true (omega (arith, call.short.ensures.0, c.if1.false)) ∙ at.loop.invariant.1, omega (arith, call.short.ensures.1))
+    let call = c in
+    let at = call in
+    let a = at.args in
+    (omega arith, ap (λ (x : ℕ). at.loop-i.i + 1 + rising_atoms (x + 1) (list_from (atom_at a.file.now a.o) (at.loop-i.i + 1) (a.count - (at.loop-i.i + 1)))) call.short-atom.ensures.0 ∙ rising_next (atom_at a.file.now a.o) at.loop-i.i a.count at.loop-i.from call.loop-i-test.true (omega (arith, call.short-atom.ensures.0, c.if-atom-from.false)) ∙ at.loop-i.invariant.1, omega (arith, call.short-atom.ensures.1))
 
-returns-2 : tie.Need-returns-2 invariant-loop decreases-loop
+returns-2 : tie.Need-returns invariant-loop decreases-loop
 returns-2 c =
-    let at = c.before in
-    let a = at.before.before.args in
-    sym (sym at.loop.invariant.1 ∙ rising_all (atom_at a.file.now a.o) at.loop.i a.count at.loop.from (omega arith) at.loop.invariant.0)
+    let at = c in
+    let a = at.args in
+    sym (sym at.loop-i.invariant.1 ∙ rising_all (atom_at a.file.now a.o) at.loop-i.i a.count at.loop-i.from (omega arith) at.loop-i.invariant.0)
 
-pub rising-atoms-spec : {M : Type 1} → statement M
-rising-atoms-spec =
+pub rising_atoms_spec : {M : Type 1} → statement M
+rising_atoms_spec =
     tie.close
     (tie.spec
     invariant-loop

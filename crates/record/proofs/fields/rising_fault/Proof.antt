@@ -16,30 +16,30 @@ use Rattle.record.proofs.fields.rising_fault.Tie as tie
 none-requires : tie.Need-none-requires
 none-requires c κs = search rules
 
-returns : tie.Need-returns
+returns : tie.Need-returns-then-kind-ne3
 unfolding rising_fault
-returns c = simp (ne_eqb _ _ c.before.if1.true) c.none.ensures
+returns c = simp (ne_eqb _ _ c.if-kind-ne3.true) c.none.ensures
 
-byte-requires : tie.Need-byte-requires
+byte-requires : tie.Need-byte-k-requires
 byte-requires c κs = search rules
 
-rising-atoms-requires : tie.Need-rising-atoms-requires
-rising-atoms-requires c κs = omega (arith, c.byte.ensures.1)
+rising-atoms-requires : tie.Need-rising_atoms-requires
+rising-atoms-requires c κs = omega (arith, c.byte-k.ensures.1)
 
 unless-requires : tie.Need-unless-requires
 unless-requires c κs = search rules
 
-returns-2 : tie.Need-returns-2
+returns-2 : tie.Need-returns
 unfolding rising_fault
 returns-2 c =
-    let k = c.before.before in
-    let a = k.before.before.before.args in
-    simp (eq-eqb _ _ k.before.if1.false)
+    let k = c in
+    let a = k.args in
+    simp (eq-eqb _ _ k.if-kind-ne3.false)
     (c.unless.ensures ∙ ap (λ (t : Bool). unless t 5 a.o)
-    (ap (λ (r : ℕ). eqb r k.byte.result) c.before.rising-atoms.ensures
-    ∙ ap (λ (n : ℕ). eqb (rising_atoms 0 (list_from (atom_at a.file.now a.o) 0 n)) n) k.byte.ensures.0))
+    (ap (λ (r : ℕ). eqb r k.byte-k.result) c.rising_atoms.ensures
+    ∙ ap (λ (n : ℕ). eqb (rising_atoms 0 (list_from (atom_at a.file.now a.o) 0 n)) n) k.byte-k.ensures.0))
 
-pub rising-fault-spec : {M : Type 1} → statement M
-rising-fault-spec =
+pub rising_fault_spec : {M : Type 1} → statement M
+rising_fault_spec =
     tie.close
     (tie.spec none-requires returns byte-requires rising-atoms-requires unless-requires returns-2)

@@ -14,33 +14,33 @@ use Rattle.record.proofs.fields.row_fault.Tie as tie
 byte-requires : tie.Need-byte-requires
 byte-requires c κs = search rules
 
-unless-requires : tie.Need-unless-requires
+unless-requires : tie.Need-unless-constant-requires
 unless-requires c κs = search rules
 
-returns : tie.Need-returns
+returns : tie.Need-returns-then-constant-ne0
 unfolding row_fault
 returns c =
-    let made = c.before.before in
-    let a = made.before.before.before.args in
-    stop _ (made.unless.ensures ∙ ap (λ (x : ℕ). unless (leb x 1) 4 a.o) made.before.byte.ensures.0) c.if1.true
+    let made = c in
+    let a = made.args in
+    stop _ (made.unless-constant.ensures ∙ ap (λ (x : ℕ). unless (leb x 1) 4 a.o) made.byte.ensures.0) c.if-constant-ne0.true
 
-atom-count-requires : tie.Need-atom-count-requires
+atom-count-requires : tie.Need-atom_count-requires
 atom-count-requires c κs = search rules
 
-atoms-fault-requires : tie.Need-atoms-fault-requires
+atoms-fault-requires : tie.Need-atoms_fault-requires
 atoms-fault-requires c κs = search rules
 
-returns-2 : tie.Need-returns-2
+returns-2 : tie.Need-returns
 unfolding row_fault
 returns-2 c =
-    let other = c.before.before in
-    let made = other.before.before in
-    let a = made.before.before.before.args in
-    pass _ (made.unless.ensures ∙ ap (λ (x : ℕ). unless (leb x 1) 4 a.o) made.before.byte.ensures.0) other.if1.false
-    (c.atoms-fault.ensures ∙ ap (λ (n : ℕ). atoms_fault a.n (list_from (atom_at a.file.now a.o) 0 n) a.o) c.before.atom-count.ensures.0)
+    let other = c in
+    let made = other in
+    let a = made.args in
+    pass _ (made.unless-constant.ensures ∙ ap (λ (x : ℕ). unless (leb x 1) 4 a.o) made.byte.ensures.0) other.if-constant-ne0.false
+    (c.atoms_fault.ensures ∙ ap (λ (n : ℕ). atoms_fault a.n (list_from (atom_at a.file.now a.o) 0 n) a.o) c.atom_count.ensures.0)
 
-pub row-fault-spec : {M : Type 1} → statement M
-row-fault-spec =
+pub row_fault_spec : {M : Type 1} → statement M
+row_fault_spec =
     tie.close
     (tie.spec
     byte-requires

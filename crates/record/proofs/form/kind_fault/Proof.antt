@@ -10,7 +10,7 @@ use Rattle.record.proofs.form.kind_fault.Tie as tie
 group-requires : tie.Need-group-requires
 group-requires c κs = search rules
 
-may-follow-requires : tie.Need-may-follow-requires
+may-follow-requires : tie.Need-may_follow-requires
 may-follow-requires c κs = search rules
 
 unless-requires : tie.Need-unless-requires
@@ -19,8 +19,8 @@ unless-requires c κs = search rules
 returns : tie.Need-returns
 unfolding kind_fault
 returns c =
-    let a = c.before.before.before.args in
-    c.unless.ensures ∙ ap (λ (t : Bool). unless t 2 a.o) (c.before.may-follow.ensures ∙ ap (follows a.before) c.before.before.group.ensures)
+    let a = c.args in
+    c.unless.ensures ∙ ap (λ (t : Bool). unless t 2 a.o) (c.may_follow.ensures ∙ ap (follows a.before) c.group.ensures)
 
-pub kind-fault-spec : {M : Type 1} → statement M
-kind-fault-spec = tie.close (tie.spec group-requires may-follow-requires unless-requires returns)
+pub kind_fault_spec : {M : Type 1} → statement M
+kind_fault_spec = tie.close (tie.spec group-requires may-follow-requires unless-requires returns)

@@ -22,11 +22,11 @@ unless-requires c κs = search rules
 returns : tie.Need-returns
 unfolding length_fault
 returns c =
-    let a = c.before.before.before.before.args in
+    let a = c.args in
     let bytes = length a.file.now in
     c.unless.ensures
     ∙ ap (λ (t : Bool). unless t 1 a.o)
-    (c.before.framed.ensures ∙ ap (λ (l : ℕ). leb (a.o + 2) bytes && (leb 2 l && leb (a.o + (2 + l)) bytes)) c.before.before.length.ensures.0)
+    (c.framed.ensures ∙ ap (λ (l : ℕ). leb (a.o + 2) bytes && (leb 2 l && leb (a.o + (2 + l)) bytes)) c.length.ensures.0)
 
-pub length-fault-spec : {M : Type 1} → statement M
-length-fault-spec = tie.close (tie.spec length-requires framed-requires unless-requires returns)
+pub length_fault_spec : {M : Type 1} → statement M
+length_fault_spec = tie.close (tie.spec length-requires framed-requires unless-requires returns)

@@ -23,33 +23,33 @@ cut-missing true false c e f = absurd (false≢true f)
 cut-missing false h c e f = absurd (false≢true e)
 
 abbrev heldIn : tie.Start → Bool
-heldIn c = subset (set_of c.args.t1.held) (set_of c.args.t2.held)
+heldIn c = subset (set_of c.args.self.held) (set_of c.args.region.held)
 
 abbrev cut_in : tie.Start → Bool
-cut_in c = subset (set_of c.args.t1.cut) (set_of c.args.t2.cut)
+cut_in c = subset (set_of c.args.self.cut) (set_of c.args.region.cut)
 
-returns : tie.Need-returns
-returns c = none_old c.before.args.t1.initialized (heldIn c.before) (cut_in c.before) (not-true _ c.if1.true)
+returns : tie.Need-returns-then-not-self
+returns c = none_old c.args.self.initialized (heldIn c.before) (cut_in c.before) (not-true _ c.if-not-self.true-raw)
 
 within-requires : tie.Need-within-requires
 within-requires c κs = search rules
 
-returns-2 : tie.Need-returns-2
+returns-2 : tie.Need-returns-then-not-within
 returns-2 c =
-    let call = c.before in
-    let old = call.before.before.before.before.before in
-    held-missing old.before.args.t1.initialized (heldIn old.before) (cut_in old.before) (not-false _ old.if1.false) (sym call.within.ensures ∙ not-true _ c.if2.true)
+    let call = c in
+    let old = call in
+    held-missing old.args.self.initialized (heldIn old.before.before.before.before.before) (cut_in old.before.before.before.before.before) (not-false _ old.if-not-self.false-raw) (sym call.within.ensures ∙ not-true _ c.if-not-within.true-raw)
 
 within-requires-2 : tie.Need-within-requires-2
 within-requires-2 c κs = search rules
 
-returns-3 : tie.Need-returns-3
+returns-3 : tie.Need-returns
 returns-3 c =
-    let held = c.before.before.before.before.before in
-    let call = held.before in
-    let old = call.before.before.before.before.before in
-    ap not c.within2.ensures
-    ∙ cut-missing old.before.args.t1.initialized (heldIn old.before) (cut_in old.before) (not-false _ old.if1.false) (sym call.within.ensures ∙ not-false _ held.if2.false)
+    let held = c in
+    let call = held in
+    let old = call in
+    ap not c.within-2.ensures
+    ∙ cut-missing old.args.self.initialized (heldIn old.before.before.before.before.before.before.before.before) (cut_in old.before.before.before.before.before.before.before.before) (not-false _ old.if-not-self.false-raw) (sym call.within.ensures ∙ not-false _ held.if-not-within.false-raw)
 
-pub missing-spec : {M : Type 1} → statement M
-missing-spec = tie.close (tie.spec returns within-requires returns-2 within-requires-2 returns-3)
+pub missing_spec : {M : Type 1} → statement M
+missing_spec = tie.close (tie.spec returns within-requires returns-2 within-requires-2 returns-3)

@@ -3,25 +3,25 @@ use borrow.Author.Tests.{lt-ltb, le-ltb, not-true, not-false}
 use Rattle.snapshot.proofs.Snapshot.overfull.Statement.{statement}
 use Rattle.snapshot.proofs.Snapshot.overfull.Tie as tie
 
-returns : tie.Need-returns
-returns c = simp (lt-ltb _ _ c.if1.true)
+returns : tie.Need-returns-then-system-gt-LIMIT
+returns c = simp (lt-ltb _ _ c.if-system-gt-LIMIT.true)
 
-returns-2 : tie.Need-returns-2
-returns-2 c = simp (le-ltb _ _ c.before.before.if1.false, lt-ltb _ _ c.if2.true)
+returns-2 : tie.Need-returns-then-system-gt-LIMIT-2
+returns-2 c = simp (le-ltb _ _ c.if-system-gt-LIMIT.false, lt-ltb _ _ c.if-system-gt-LIMIT-2.true)
 
-returns-3 : tie.Need-returns-3
-returns-3 c = simp (le-ltb _ _ c.before.before.before.before.if1.false, le-ltb _ _ c.before.before.if2.false, lt-ltb _ _ c.if3.true)
+returns-3 : tie.Need-returns-then-region-gt-LIMIT
+returns-3 c = simp (le-ltb _ _ c.if-system-gt-LIMIT.false, le-ltb _ _ c.if-system-gt-LIMIT-2.false, lt-ltb _ _ c.if-region-gt-LIMIT.true)
 
-returns-4 : tie.Need-returns-4
+returns-4 : tie.Need-returns-then-not-self
 returns-4 c =
-    let two = c.before.before.before.before in
-    simp (le-ltb _ _ two.before.before.if1.false, le-ltb _ _ two.if2.false, le-ltb _ _ c.before.before.if3.false, not-true two.before.before.before.before.args.self.initialized c.if4.true)
+    let two = c in
+    simp (le-ltb _ _ two.if-system-gt-LIMIT.false, le-ltb _ _ two.if-system-gt-LIMIT-2.false, le-ltb _ _ c.if-region-gt-LIMIT.false, not-true two.args.self.initialized c.if-not-self.true)
 
-returns-5 : tie.Need-returns-5
+returns-5 : tie.Need-returns
 returns-5 c =
-    let three = c.before.before.before in
-    let two = three.before.before in
-    simp (le-ltb _ _ two.before.before.if1.false, le-ltb _ _ two.if2.false, le-ltb _ _ three.if3.false, not-false two.before.before.before.before.args.self.initialized c.before.if4.false)
+    let three = c in
+    let two = three in
+    simp (le-ltb _ _ two.if-system-gt-LIMIT.false, le-ltb _ _ two.if-system-gt-LIMIT-2.false, le-ltb _ _ three.if-region-gt-LIMIT.false, not-false two.args.self.initialized c.if-not-self.false)
 
-pub overfull-spec : {M : Type 1} → statement M
-overfull-spec = tie.close (tie.spec returns returns-2 returns-3 returns-4 returns-5)
+pub overfull_spec : {M : Type 1} → statement M
+overfull_spec = tie.close (tie.spec returns returns-2 returns-3 returns-4 returns-5)

@@ -9,24 +9,24 @@ use borrow.Author.Rules.{rules}
 use Rattle.snapshot.proofs.Snapshot.publish.Statement.{statement}
 use Rattle.snapshot.proofs.Snapshot.publish.Tie as tie
 
-number-requires : tie.Need-number-requires
+number-requires : tie.Need-number-number-requires
 number-requires c κs = search rules
 
-returns : tie.Need-returns
+returns : tie.Need-returns-then-number-ne0
 unfolding publish_of
 returns c =
-    let a = c.before.before.args in
+    let a = c.args in
     let refused : ℕ → Published = λ number. record { number = number; known = a.self } in
-    refused_is {A = Published} c.before.number.result (record { number = 0; known = published a.region }) refused c.if1.true
-    ∙ ap (λ (k : ℕ). or_refused {A = Published} k (record { number = 0; known = published a.region }) refused) c.before.number.ensures
+    refused_is {A = Published} c.number-number.result (record { number = 0; known = published a.region }) refused c.if-number-ne0.true
+    ∙ ap (λ (k : ℕ). or_refused {A = Published} k (record { number = 0; known = published a.region }) refused) c.number-number.ensures
 
-returns-2 : tie.Need-returns-2
+returns-2 : tie.Need-returns
 unfolding publish_of
 returns-2 c =
-    let call = c.before.before.before in
-    let a = call.before.args in
+    let call = c in
+    let a = call.args in
     sym (ap (λ (k : ℕ). or_refused {A = Published} k (record { number = 0; known = published a.region }) (λ (number : ℕ). record { number = number; known = a.self }))
-    (sym call.number.ensures ∙ c.before.before.if1.false))
+    (sym call.number-number.ensures ∙ c.if-number-ne0.false))
 
-pub publish-spec : {M : Type 1} → statement M
-publish-spec = tie.close (tie.spec number-requires returns returns-2)
+pub publish_spec : {M : Type 1} → statement M
+publish_spec = tie.close (tie.spec number-requires returns returns-2)

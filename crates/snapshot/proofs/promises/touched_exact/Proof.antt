@@ -6,5 +6,5 @@ use Rattle.snapshot.proofs.promises.touched_exact.Tie as tie
 returns : tie.Need-returns
 returns c = touched_exact
 
-pub touched-exact-spec : {M : Type 1} → statement M
-touched-exact-spec = tie.close (tie.spec returns)
+pub touched_exact_spec : {M : Type 1} → statement M
+touched_exact_spec = tie.close (tie.spec returns)

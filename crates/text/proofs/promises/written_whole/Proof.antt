@@ -6,5 +6,5 @@ use Rattle.text.proofs.promises.written_whole.Tie as tie
 returns : tie.Need-returns
 returns c = wrote_whole
 
-pub written-whole-spec : {M : Type 1} → statement M
-written-whole-spec = tie.close (tie.spec returns)
+pub written_whole_spec : {M : Type 1} → statement M
+written_whole_spec = tie.close (tie.spec returns)
