@@ -6,24 +6,24 @@ use borrow.Author.Tests.{eq-eqb, ne_eqb}
 use Rattle.inspect.proofs.answer.Statement.{statement}
 use Rattle.inspect.proofs.answer.Tie as tie
 
-returns : tie.Need-returns
-returns c = simp c.if1.true
+returns : tie.Need-returns-then-against
+returns c = simp c.if-against.true
 
-returns-2 : tie.Need-returns-2
+returns-2 : tie.Need-returns-then-cut-eq0
 returns-2 c =
-    let a = c.before.before.before.args in
-    let none : a.held + a.cut ≡ 0 = omega (arith, c.before.if2.true, c.if3.true) in
-    simp (c.before.before.if1.false, eq-eqb (a.held + a.cut) 0 none)
+    let a = c.args in
+    let none : a.held + a.cut ≡ 0 = omega (arith, c.if-held-eq0.true, c.if-cut-eq0.true) in
+    simp (c.if-against.false, eq-eqb (a.held + a.cut) 0 none)
 
-returns-3 : tie.Need-returns-3
+returns-3 : tie.Need-returns-else-cut-eq0
 returns-3 c =
-    let a = c.before.before.before.args in
-    simp (c.before.before.if1.false, ne_eqb (a.held + a.cut) 0 (λ z. c.if3.false (omega arith)))
+    let a = c.args in
+    simp (c.if-against.false, ne_eqb (a.held + a.cut) 0 (λ z. c.if-cut-eq0.false (omega arith)))
 
-returns-4 : tie.Need-returns-4
+returns-4 : tie.Need-returns-else-held-eq0
 returns-4 c =
-    let a = c.before.before.args in
-    simp (c.before.if1.false, ne_eqb (a.held + a.cut) 0 (λ z. c.if2.false (omega arith)))
+    let a = c.args in
+    simp (c.if-against.false, ne_eqb (a.held + a.cut) 0 (λ z. c.if-held-eq0.false (omega arith)))
 
-pub answer-spec : {M : Type 1} → statement M
-answer-spec = tie.close (tie.spec returns returns-2 returns-3 returns-4)
+pub answer_spec : {M : Type 1} → statement M
+answer_spec = tie.close (tie.spec returns returns-2 returns-3 returns-4)

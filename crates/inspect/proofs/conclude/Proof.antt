@@ -10,10 +10,10 @@ use Rattle.inspect.proofs.Inspecting.{publishes}
 use Rattle.inspect.proofs.conclude.Statement.{statement}
 use Rattle.inspect.proofs.conclude.Tie as tie
 
-publish-requires : tie.Need-publish-requires
+publish-requires : tie.Need-publish-published-requires
 publish-requires c κs = search rules
 
-apply-requires : tie.Need-apply-requires
+apply-requires : tie.Need-apply-applied-requires
 apply-requires c κs = search rules
 
 answer-requires : tie.Need-answer-requires
@@ -24,14 +24,14 @@ told-requires c κs = search rules
 
 returns : tie.Need-returns
 returns c =
-    let done = c.before.before in
-    let published = done.before in
-    let s = published.before.before.before in
-    let batch = done.apply.result in
+    let done = c in
+    let published = done in
+    let s = published in
+    let batch = done.apply-applied.result in
     c.told.ensures
-    ∙ ap (λ (answer : Step). told_of answer batch.held batch.cut s.args.forced batch.region published.publish.result.known) c.before.answer.ensures
-    ∙ ap₂ (λ (b : Applied) (now : Snapshot). told_of (answer_of b.held b.cut b.against) b.held b.cut s.args.forced b.region now) done.apply.ensures
-    (ap (λ (p : Published). p.known) published.publish.ensures ∙ publishes s.args.known s.args.region s.requires.fit)
+    ∙ ap (λ (answer : Step). told_of answer batch.held batch.cut s.args.forced batch.region published.publish-published.result.known) c.answer.ensures
+    ∙ ap₂ (λ (b : Applied) (now : Snapshot). told_of (answer_of b.held b.cut b.against) b.held b.cut s.args.forced b.region now) done.apply-applied.ensures
+    (ap (λ (p : Published). p.known) published.publish-published.ensures ∙ publishes s.args.known s.args.region s.requires.fit)
 
-pub conclude-spec : {M : Type 1} → statement M
-conclude-spec = tie.close (tie.spec publish-requires apply-requires answer-requires told-requires returns)
+pub conclude_spec : {M : Type 1} → statement M
+conclude_spec = tie.close (tie.spec publish-requires apply-requires answer-requires told-requires returns)

@@ -23,71 +23,71 @@ use Rattle.inspect.proofs.inspect_over.Statement.{statement}
 use Rattle.inspect.proofs.inspect_over.Tie as tie
 
 -- where the call begins, and what it is lent to be read
-abbrev start : tie.After-unfit → tie.Start
+abbrev start : tie.After-unfit-number → tie.Start
 start u = u.before.before.before.before.before.before.before
 
 abbrev lentTo : tie.Start → Filled
 lentTo s = filled s.args.rows.now s.args.constants.now s.args.basis.now s.args.index.now
 
-fits : (c : tie.Else1)
+fits : (c : tie.Else-number-ne0)
     → let s = start c.before in
-    Fits s.args.over s.args.system (lentTo s) s.args.region s.args.known (length s.args.forced-atoms.now) (length s.args.forced-values.now)
+    Fits s.args.over s.args.system (lentTo s) s.args.region s.args.known (length s.args.forced_atoms.now) (length s.args.forced_values.now)
 fits c =
     let s = start c.before in
-    over_fits s.args.system (lentTo s) s.args.region s.args.known (length s.args.forced-atoms.now) (length s.args.forced-values.now)
+    over_fits s.args.system (lentTo s) s.args.region s.args.known (length s.args.forced_atoms.now) (length s.args.forced_values.now)
     s.args.over
-    (sym c.before.unfit.ensures ∙ c.if1.false)
+    (sym c.unfit-number.ensures ∙ c.if-number-ne0.false)
 
-unfit-requires : tie.Need-unfit-requires
+unfit-requires : tie.Need-unfit-number-requires
 unfit-requires c κs = search rules
 
 told-requires : tie.Need-told-requires
 told-requires c κs = search rules
 
-returns : tie.Need-returns
+returns : tie.Need-returns-then-number-ne0
 returns c =
-    let u = c.before.before in
-    let a = (start u).args in
-    ap (λ (r : Inspected). outcome r a.forced-atoms.now a.forced-values.now) c.told.ensures
-    ∙ refused a.over a.system (lentTo (start u)) a.region a.known a.forced-atoms.now a.forced-values.now _ u.unfit.ensures c.before.if1.true
+    let u = c in
+    let a = (start u.before.before).args in
+    ap (λ (r : Inspected). outcome r a.forced_atoms.now a.forced_values.now) c.told.ensures
+    ∙ refused a.over a.system (lentTo (start u.before.before)) a.region a.known a.forced_atoms.now a.forced_values.now _ u.unfit-number.ensures c.if-number-ne0.true
 
-told-requires-2 : tie.Need-told-requires-2
+told-requires-2 : tie.Need-told-requires-then-system
 told-requires-2 c κs = search rules
 
-returns-2 : tie.Need-returns-2
+returns-2 : tie.Need-returns-then-system
 returns-2 c =
-    let u = c.before.before.before in
-    let a = (start u).args in
-    ap (λ (r : Inspected). outcome r a.forced-atoms.now a.forced-values.now) c.told2.ensures
-    ∙ refuted_is a.over a.system (lentTo (start u)) a.region a.known a.forced-atoms.now a.forced-values.now _ u.unfit.ensures c.before.before.if1.false
-    c.before.if2.true
+    let u = c in
+    let a = (start u.before.before.before).args in
+    ap (λ (r : Inspected). outcome r a.forced_atoms.now a.forced_values.now) c.told-then-system.ensures
+    ∙ refuted_is a.over a.system (lentTo (start u.before.before.before)) a.region a.known a.forced_atoms.now a.forced_values.now _ u.unfit-number.ensures c.if-number-ne0.false
+    c.if-system.true
 
-told-requires-3 : tie.Need-told-requires-3
+told-requires-3 : tie.Need-told-requires-then-system-eq0
 told-requires-3 c κs = search rules
 
-returns-3 : tie.Need-returns-3
+returns-3 : tie.Need-returns-then-system-eq0
 returns-3 c =
-    let u = c.before.before.before.before.before in
-    let a = (start u).args in
-    ap (λ (r : Inspected). outcome r a.forced-atoms.now a.forced-values.now) c.told3.ensures
-    ∙ empty_is a.over a.system (lentTo (start u)) a.region a.known a.forced-atoms.now a.forced-values.now _ u.unfit.ensures c.before.before.before.before.if1.false
-    c.before.before.before.if2.false c.before.if3.true
+    let u = c in
+    let a = (start u.before.before.before.before.before).args in
+    ap (λ (r : Inspected). outcome r a.forced_atoms.now a.forced_values.now) c.told-then-system-eq0.ensures
+    ∙ empty_is a.over a.system (lentTo (start u.before.before.before.before.before)) a.region a.known a.forced_atoms.now a.forced_values.now _ u.unfit-number.ensures c.if-number-ne0.false
+    c.if-system.false c.if-system-eq0.true
 
-select-requires : tie.Need-select-requires
+select-requires : tie.Need-select-touched-requires
 select-requires c κs = search rules
 
-collect-touched-requires : tie.Need-collect-touched-requires
+collect-touched-requires : tie.Need-collect_touched-collected-requires
 collect-touched-requires c κs =
-    let checked = c.before.before.before.before.before.before in
-    let s = start checked.before in
-    let fit = fits checked in
+    let checked = c in
+    let s = start checked.before.before.before.before.before.before.before in
+    let fit = fits checked.before.before.before.before.before.before in
     (fits_named s.args.over s.args.system (lentTo s) s.args.region s.args.known _ _ fit, fit.region, fit.same_atoms, fit.atoms_room, fit.values_room)
 
 -- what is collected is what the touched rows of the definition say
-gathered : (g : tie.After-collect-touched)
+gathered : (g : tie.After-collect_touched-collected)
     → let s = start g.before.before.before.before.before.before.before.before in
-    Gathered (found s.args.system (lentTo s) s.args.region s.args.known) g.collect-touched.result s.args.forced-atoms.now s.args.forced-values.now
-    g.collect-touched.new.1.1.1.1.1.1.0 g.collect-touched.new.1.1.1.1.1.1.1.0
+    Gathered (found s.args.system (lentTo s) s.args.region s.args.known) g.collect_touched-collected.result s.args.forced_atoms.now s.args.forced_values.now
+    g.collect_touched-collected.new.atoms g.collect_touched-collected.new.values
 gathered g =
     let s = start g.before.before.before.before.before.before.before.before in
     let rank = s.args.system.rank in
@@ -95,67 +95,67 @@ gathered g =
     let few = (fits_named s.args.over s.args.system (lentTo s) s.args.region s.args.known _ _ (fits g.before.before.before.before.before.before.before)).ranked in
     subst (λ (ts : List Bool).
     Gathered (consequences (map is_held (decisions s.args.region)) (map is_open (decisions s.args.region)) ts (basis_in s.args.system (lentTo s)))
-    g.collect-touched.result s.args.forced-atoms.now s.args.forced-values.now
-    g.collect-touched.new.1.1.1.1.1.1.0 g.collect-touched.new.1.1.1.1.1.1.1.0)
-    (ap (λ (o : Ordinals). atoms_of rank (set_of o.words)) g.before.before.before.select.ensures
+    g.collect_touched-collected.result s.args.forced_atoms.now s.args.forced_values.now
+    g.collect_touched-collected.new.atoms g.collect_touched-collected.new.values)
+    (ap (λ (o : Ordinals). atoms_of rank (set_of o.words)) g.select-touched.ensures
     ∙ chosen_atoms rank touched (touched_length rank s.args.index.now s.args.region s.args.known) few)
-    g.collect-touched.ensures
+    g.collect_touched-collected.ensures
 
-told-requires-4 : tie.Need-told-requires-4
+told-requires-4 : tie.Need-told-requires-then-not-collected
 told-requires-4 c κs = search rules
 
-same_length : tie.Need-same-length
+same_length : tie.Need-shape_of-forced_atoms-then-not-collected
 same_length c = search rules
 
-same-length-2 : tie.Need-same-length-2
+same-length-2 : tie.Need-shape_of-forced_values-then-not-collected
 same-length-2 c = search rules
 
-returns-4 : tie.Need-returns-4
+returns-4 : tie.Need-returns-then-not-collected
 returns-4 c =
-    let g = c.before.before.before.before.before.before.before in
-    let u = g.before.before.before.before.before.before.before.before in
-    let a = (start u).args in
-    ap (λ (r : Inspected). outcome r g.collect-touched.new.1.1.1.1.1.1.0 g.collect-touched.new.1.1.1.1.1.1.1.0) c.told4.ensures
-    ∙ wrong_is a.over a.system (lentTo (start u)) a.region a.known a.forced-atoms.now a.forced-values.now _ u.unfit.ensures g.before.before.before.before.before.before.before.if1.false
-    g.before.before.before.before.before.before.if2.false g.before.before.before.before.if3.false g.collect-touched.result _ _ (gathered g) (not-true _ c.before.if4.true)
+    let g = c in
+    let u = g in
+    let a = (start u.before.before.before.before.before.before.before.before.before.before.before.before.before.before.before).args in
+    ap (λ (r : Inspected). outcome r g.collect_touched-collected.new.atoms g.collect_touched-collected.new.values) c.told-then-not-collected.ensures
+    ∙ wrong_is a.over a.system (lentTo (start u.before.before.before.before.before.before.before.before.before.before.before.before.before.before.before)) a.region a.known a.forced_atoms.now a.forced_values.now _ u.unfit-number.ensures g.if-number-ne0.false
+    g.if-system.false g.if-system-eq0.false g.collect_touched-collected.result _ _ (gathered g.before.before.before.before.before.before.before) (not-true _ c.if-not-collected.true)
 
 conclude-requires : tie.Need-conclude-requires
 conclude-requires c κs =
-    let g = c.before.before.before.before.before.before.before.before in
-    let u = g.before.before.before.before.before.before.before.before in
-    let s = start u in
+    let g = c in
+    let u = g in
+    let s = start u.before.before.before.before.before.before.before.before.before.before.before.before.before.before in
     let a = s.args in
-    let fit = fits g.before.before.before.before.before.before.before in
-    let collected = g.collect-touched in
-    let number = few a.over a.system (lentTo s) a.region a.known a.forced-atoms.now a.forced-values.now _ u.unfit.ensures g.before.before.before.before.before.before.before.if1.false
-    g.before.before.before.before.before.before.if2.false g.before.before.before.before.if3.false collected.result _ _ (gathered g) in
-    let below = atoms_below a.over a.system (lentTo s) a.region a.known a.forced-atoms.now a.forced-values.now _ u.unfit.ensures g.before.before.before.before.before.before.before.if1.false
-    g.before.before.before.before.before.before.if2.false g.before.before.before.before.if3.false collected.result _ _ (gathered g) in
+    let fit = fits g.before.before.before.before.before.before.before.before.before.before.before.before.before in
+    let collected = g.collect_touched-collected in
+    let number = few a.over a.system (lentTo s) a.region a.known a.forced_atoms.now a.forced_values.now _ u.unfit-number.ensures g.if-number-ne0.false
+    g.if-system.false g.if-system-eq0.false collected.result _ _ (gathered g.before.before.before.before.before.before) in
+    let below = atoms_below a.over a.system (lentTo s) a.region a.known a.forced_atoms.now a.forced_values.now _ u.unfit-number.ensures g.if-number-ne0.false
+    g.if-system.false g.if-system-eq0.false collected.result _ _ (gathered g.before.before.before.before.before.before) in
     record {
       fit = fit.region;
       few = omega (arith, number, fit.ranked, fit.lent.atoms);
-      atoms_room = omega (arith, number, fit.atoms_room, collected.auto.1.1.1.1.1.1.0);
-      values_room = omega (arith, number, fit.values_room, collected.auto.1.1.1.1.1.1.1.0);
+      atoms_room = omega (arith, number, fit.atoms_room, collected.auto.atoms);
+      values_room = omega (arith, number, fit.values_room, collected.auto.values);
       below = below;
     }
 
-same-length-3 : tie.Need-same-length-3
+same-length-3 : tie.Need-shape_of-forced_atoms
 same-length-3 c = search rules
 
-same-length-4 : tie.Need-same-length-4
+same-length-4 : tie.Need-shape_of-forced_values
 same-length-4 c = search rules
 
-returns-5 : tie.Need-returns-5
+returns-5 : tie.Need-returns
 returns-5 c =
-    let g = c.before.before.before.before.before.before.before.before.before in
-    let u = g.before.before.before.before.before.before.before.before in
-    let a = (start u).args in
-    ap (λ (r : Inspected). outcome r g.collect-touched.new.1.1.1.1.1.1.0 g.collect-touched.new.1.1.1.1.1.1.1.0) c.conclude.ensures
-    ∙ applied_is a.over a.system (lentTo (start u)) a.region a.known a.forced-atoms.now a.forced-values.now _ u.unfit.ensures g.before.before.before.before.before.before.before.if1.false
-    g.before.before.before.before.before.before.if2.false g.before.before.before.before.if3.false g.collect-touched.result _ _ (gathered g) (not-false _ c.before.before.before.if4.false)
+    let g = c in
+    let u = g in
+    let a = (start u.before.before.before.before.before.before.before.before.before.before.before.before.before.before.before).args in
+    ap (λ (r : Inspected). outcome r g.collect_touched-collected.new.atoms g.collect_touched-collected.new.values) c.conclude.ensures
+    ∙ applied_is a.over a.system (lentTo (start u.before.before.before.before.before.before.before.before.before.before.before.before.before.before.before)) a.region a.known a.forced_atoms.now a.forced_values.now _ u.unfit-number.ensures g.if-number-ne0.false
+    g.if-system.false g.if-system-eq0.false g.collect_touched-collected.result _ _ (gathered g.before.before.before.before.before.before.before) (not-false _ c.if-not-collected.false)
 
-pub inspect-over-spec : {M : Type 1} → statement M
-inspect-over-spec =
+pub inspect_over_spec : {M : Type 1} → statement M
+inspect_over_spec =
     tie.close
     (tie.spec
     unfit-requires

@@ -15,74 +15,74 @@ use borrow.Author.Rules.{rules}
 use Rattle.records.proofs.check_record.Statement.{statement}
 use Rattle.records.proofs.check_record.Tie as tie
 
-short-requires : tie.Need-short-requires
+short-requires : tie.Need-short-kind-requires
 short-requires c κs = search rules
 
-early-fault-requires : tie.Need-early-fault-requires
+early-fault-requires : tie.Need-early_fault-early-requires
 early-fault-requires c κs = search rules
 
 abbrev late : List ℕ → Seen → ℕ → ℕ → Fault
 late file seen kind o = late_fault seen.rows (exact_at file kind o) (rows_at file kind o) o
 
-returns : tie.Need-returns
+returns : tie.Need-returns-then-early-ne0
 returns c =
-    let early = c.before.before in
-    let a = early.before.before.before.args in
-    let is = early.before.short.ensures.0 in
-    let kind = early.before.short.result in
-    let fault = stop (late a.file.now a.seen kind a.o) early.early-fault.ensures c.if1.true ∙ sym (fault_both a.file.now a.seen kind a.o is) in
-    step_stop a.file.now a.seen a.o fault c.if1.true
+    let early = c in
+    let a = early.args in
+    let is = early.short-kind.ensures.0 in
+    let kind = early.short-kind.result in
+    let fault = stop (late a.file.now a.seen kind a.o) early.early_fault-early.ensures c.if-early-ne0.true ∙ sym (fault_both a.file.now a.seen kind a.o is) in
+    step_stop a.file.now a.seen a.o fault c.if-early-ne0.true
 
-rows-in-requires : tie.Need-rows-in-requires
+rows-in-requires : tie.Need-rows_in-brought-requires
 rows-in-requires c κs =
-    let early = c.before.before in
-    let a = early.before.before.before.args in
-    early_sized a.file.now a.seen early.before.short.result a.o (ap (λ (f : Fault). f.number) (sym early.early-fault.ensures) ∙ c.if1.false)
+    let early = c in
+    let a = early.args in
+    early_sized a.file.now a.seen early.short-kind.result a.o (ap (λ (f : Fault). f.number) (sym early.early_fault-early.ensures) ∙ c.if-early-ne0.false)
 
-late-fault-requires : tie.Need-late-fault-requires
+late-fault-requires : tie.Need-late_fault-late-requires
 late-fault-requires c κs = search rules
 
 -- the second run's outcome is the record's, where the first found nothing
-both : (c : tie.After-late-fault) → c.late-fault.result ≡ fault_at c.before.before.before.before.before.before.before.args.file.now c.before.before.before.before.before.before.before.args.seen c.before.before.before.before.before.before.before.args.o
+both : (c : tie.After-late_fault-late) → c.late_fault-late.result ≡ fault_at c.args.file.now c.args.seen c.args.o
 both c =
-    let rows = c.before in
-    let early = rows.before.before.before in
-    let a = early.before.before.before.args in
-    let kind = early.before.short.result in
-    pass (late a.file.now a.seen kind a.o) early.early-fault.ensures rows.before.if1.false
-    (c.late-fault.ensures ∙ ap₂ (λ (x : Bool) (m : ℕ). late_fault a.seen.rows x m a.o) rows.rows_in.ensures.0 rows.rows_in.ensures.1)
-    ∙ sym (fault_both a.file.now a.seen kind a.o early.before.short.ensures.0)
+    let rows = c in
+    let early = rows in
+    let a = early.args in
+    let kind = early.short-kind.result in
+    pass (late a.file.now a.seen kind a.o) early.early_fault-early.ensures rows.if-early-ne0.false
+    (c.late_fault-late.ensures ∙ ap₂ (λ (x : Bool) (m : ℕ). late_fault a.seen.rows x m a.o) rows.rows_in-brought.ensures.0 rows.rows_in-brought.ensures.1)
+    ∙ sym (fault_both a.file.now a.seen kind a.o early.short-kind.ensures.0)
 
-returns-2 : tie.Need-returns-2
+returns-2 : tie.Need-returns-then-late-ne0
 returns-2 c =
-    let call = c.before.before in
-    let a = call.before.before.before.before.before.before.before.args in
-    step_stop a.file.now a.seen a.o (both call) c.if2.true
+    let call = c in
+    let a = call.args in
+    step_stop a.file.now a.seen a.o (both call.before.before) c.if-late-ne0.true
 
 group-requires : tie.Need-group-requires
 group-requires c κs = search rules
 
-atoms-after-requires : tie.Need-atoms-after-requires
+atoms-after-requires : tie.Need-atoms_after-requires
 atoms-after-requires c κs = search rules
 
-add-t11 : tie.Need-overflow-add-t11
+add-t11 : tie.Need-overflow_add-result
 add-t11 c =
-    let call = c.before.before.before.before.before.before in
-    let a = call.before.before.before.before.before.before.before.args in
-    omega (arith, few_rows a.seen.rows call.before.rows_in.result.exact call.before.rows_in.result.rows a.o (ap (λ (f : Fault). f.number) (sym call.late-fault.ensures) ∙ c.before.before.before.before.if2.false))
+    let call = c in
+    let a = call.args in
+    omega (arith, few_rows a.seen.rows call.rows_in-brought.result.exact call.rows_in-brought.result.rows a.o (ap (λ (f : Fault). f.number) (sym call.late_fault-late.ensures) ∙ c.if-late-ne0.false))
 
-returns-3 : tie.Need-returns-3
+returns-3 : tie.Need-returns
 returns-3 c =
-    let made = c.before.before in
-    let call = made.before.before.before.before in
-    let start = call.before.before.before.before.before.before.before in
+    let made = c in
+    let call = made in
+    let start = call in
     let a = start.args in
-    let short = call.before.before.before.before.before in
-    let seen = seen_made a.file.now a.seen short.short.result a.o short.short.ensures.0 _ _ _ made.before.group.ensures made.atoms-after.ensures call.before.rows_in.ensures.1 in
-    step_more a.file.now a.seen a.o (both call) made.before.before.if2.false seen
+    let short = call in
+    let seen = seen_made a.file.now a.seen short.short-kind.result a.o short.short-kind.ensures.0 _ _ _ made.group.ensures made.atoms_after.ensures call.rows_in-brought.ensures.1 in
+    step_more a.file.now a.seen a.o (both call.before.before.before.before.before.before) made.if-late-ne0.false seen
 
-pub check-record-spec : {M : Type 1} → statement M
-check-record-spec =
+pub check_record_spec : {M : Type 1} → statement M
+check_record_spec =
     tie.close
     (tie.spec
     short-requires

@@ -13,58 +13,58 @@ use borrow.Author.Rules.{rules}
 use Rattle.records.proofs.check_records.Statement.{statement}
 use Rattle.records.proofs.check_records.Tie as tie
 
-abbrev invariant-loop : tie.invariant-loop
+abbrev invariant-loop : tie.invariant-loop-o
 invariant-loop file seen₀ o₀ seen o = check_from file seen (starts file o) ≡ check_from file nothing_seen (starts file 0)
 
-abbrev decreases-loop : tie.decreases-loop
+abbrev decreases-loop : tie.decreases-loop-o
 decreases-loop file seen₀ o₀ seen o = length file - o
 
-loop-holds : tie.Need-loop-init invariant-loop decreases-loop
+loop-holds : tie.Need-loop-o-init invariant-loop decreases-loop
 loop-holds c = refl
 
-check-record-requires : tie.Need-check-record-requires invariant-loop decreases-loop
+check-record-requires : tie.Need-check_record-s-requires invariant-loop decreases-loop
 check-record-requires c κs = search rules
 
 refused-requires : tie.Need-refused-requires invariant-loop decreases-loop
 refused-requires c κs = search rules
 
-returns : tie.Need-returns invariant-loop decreases-loop
+returns : tie.Need-returns-then-s-ne0 invariant-loop decreases-loop
 returns c =
-    let call = c.before.before.before in
-    let at = call.before.before in
-    let file = at.before.before.args.file.now in
-    let fault = step_fault file at.loop.seen at.loop.o call.check-record.ensures in
+    let call = c in
+    let at = call in
+    let file = at.args.file.now in
+    let fault = step_fault file at.loop-o.seen at.loop-o.o call.check_record-s.ensures in
     c.refused.ensures ∙ ap refused_for fault
-    ∙ sym (check_stop file at.loop.seen at.loop.o call.before.loop-test.true (λ z. c.before.if1.true (ap (λ (f : Fault). f.number) fault ∙ z)))
-    ∙ at.loop.invariant
+    ∙ sym (check_stop file at.loop-o.seen at.loop-o.o call.loop-o-test.true (λ z. c.if-s-ne0.true (ap (λ (f : Fault). f.number) fault ∙ z)))
+    ∙ at.loop-o.invariant
 
-next-requires : tie.Need-next-requires invariant-loop decreases-loop
+next-requires : tie.Need-next-o-requires invariant-loop decreases-loop
 next-requires c κs = search rules
 
-loop-less : tie.Need-loop-smaller invariant-loop decreases-loop
+loop-less : tie.Need-loop-o-smaller invariant-loop decreases-loop
 loop-less c =
-    let turn = c.before.before.before.before.before in
-    let file = turn.before.before.before.args.file.now in
-    omega (arith, c.next.ensures, turn.loop-test.true, next_after file turn.before.loop.o turn.loop-test.true)
+    let turn = c in
+    let file = turn.args.file.now in
+    omega (arith, c.next-o.ensures, turn.loop-o-test.true, next_after file turn.loop-o.o turn.loop-o-test.true)
 
-loop-again : tie.Need-loop-preserved invariant-loop decreases-loop
+loop-again : tie.Need-loop-o-preserved invariant-loop decreases-loop
 loop-again c =
-    let call = c.before.before.before.before in
-    let at = call.before.before in
-    let file = at.before.before.args.file.now in
-    let none = c.before.before.if1.false in
-    let fault = step_fault file at.loop.seen at.loop.o call.check-record.ensures in
-    ap₂ (λ (s : Seen) (o : ℕ). check_from file s (starts file o)) (step_seen file at.loop.seen at.loop.o call.check-record.ensures none) c.next.ensures
-    ∙ sym (check_more file at.loop.seen at.loop.o call.before.loop-test.true (sym (ap (λ (f : Fault). f.number) fault) ∙ none))
-    ∙ at.loop.invariant
+    let call = c in
+    let at = call in
+    let file = at.args.file.now in
+    let none = c.if-s-ne0.false in
+    let fault = step_fault file at.loop-o.seen at.loop-o.o call.check_record-s.ensures in
+    ap₂ (λ (s : Seen) (o : ℕ). check_from file s (starts file o)) (step_seen file at.loop-o.seen at.loop-o.o call.check_record-s.ensures none) c.next-o.ensures
+    ∙ sym (check_more file at.loop-o.seen at.loop-o.o call.loop-o-test.true (sym (ap (λ (f : Fault). f.number) fault) ∙ none))
+    ∙ at.loop-o.invariant
 
-returns-2 : tie.Need-returns-2 invariant-loop decreases-loop
+returns-2 : tie.Need-returns invariant-loop decreases-loop
 returns-2 c =
-    let at = c.before in
-    sym (check_end at.before.before.args.file.now at.loop.seen at.loop.o c.loop-test.false) ∙ at.loop.invariant
+    let at = c in
+    sym (check_end at.args.file.now at.loop-o.seen at.loop-o.o c.loop-o-test.false) ∙ at.loop-o.invariant
 
-pub check-records-spec : {M : Type 1} → statement M
-check-records-spec =
+pub check_records_spec : {M : Type 1} → statement M
+check_records_spec =
     tie.close
     (tie.spec
     invariant-loop

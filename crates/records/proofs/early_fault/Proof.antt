@@ -5,60 +5,60 @@ use borrow.Author.Rules.{rules}
 use Rattle.records.proofs.early_fault.Statement.{statement}
 use Rattle.records.proofs.early_fault.Tie as tie
 
-length-fault-requires : tie.Need-length-fault-requires
+length-fault-requires : tie.Need-length_fault-length-requires
 length-fault-requires c κs = search rules
 
-returns : tie.Need-returns
-returns c = stop _ c.before.before.length-fault.ensures c.if1.true
+returns : tie.Need-returns-then-length-ne0
+returns c = stop _ c.length_fault-length.ensures c.if-length-ne0.true
 
-kind-fault-requires : tie.Need-kind-fault-requires
+kind-fault-requires : tie.Need-kind_fault-order-requires
 kind-fault-requires c κs = search rules
 
-returns-2 : tie.Need-returns-2
+returns-2 : tie.Need-returns-then-order-ne0
 returns-2 c =
-    let kind = c.before.before in
-    let length = kind.before.before.before in
-    pass _ length.length-fault.ensures kind.before.if1.false (stop _ kind.kind-fault.ensures c.if2.true)
+    let kind = c in
+    let length = kind in
+    pass _ length.length_fault-length.ensures kind.if-length-ne0.false (stop _ kind.kind_fault-order.ensures c.if-order-ne0.true)
 
-size-fault-requires : tie.Need-size-fault-requires
+size-fault-requires : tie.Need-size_fault-size-requires
 size-fault-requires c κs = search rules
 
-returns-3 : tie.Need-returns-3
+returns-3 : tie.Need-returns-then-size-ne0
 returns-3 c =
-    let size = c.before.before in
-    let kind = size.before.before.before in
-    let length = kind.before.before.before in
-    pass _ length.length-fault.ensures kind.before.if1.false
-    (pass _ kind.kind-fault.ensures size.before.if2.false (stop _ size.size-fault.ensures c.if3.true))
+    let size = c in
+    let kind = size in
+    let length = kind in
+    pass _ length.length_fault-length.ensures kind.if-length-ne0.false
+    (pass _ kind.kind_fault-order.ensures size.if-order-ne0.false (stop _ size.size_fault-size.ensures c.if-size-ne0.true))
 
-range-fault-requires : tie.Need-range-fault-requires
+range-fault-requires : tie.Need-range_fault-range-requires
 range-fault-requires c κs = search rules
 
-returns-4 : tie.Need-returns-4
+returns-4 : tie.Need-returns-then-range-ne0
 returns-4 c =
-    let range = c.before.before in
-    let size = range.before.before.before in
-    let kind = size.before.before.before in
-    let length = kind.before.before.before in
-    pass _ length.length-fault.ensures kind.before.if1.false
-    (pass _ kind.kind-fault.ensures size.before.if2.false
-    (pass _ size.size-fault.ensures range.before.if3.false (stop _ range.range-fault.ensures c.if4.true)))
+    let range = c in
+    let size = range in
+    let kind = size in
+    let length = kind in
+    pass _ length.length_fault-length.ensures kind.if-length-ne0.false
+    (pass _ kind.kind_fault-order.ensures size.if-order-ne0.false
+    (pass _ size.size_fault-size.ensures range.if-size-ne0.false (stop _ range.range_fault-range.ensures c.if-range-ne0.true)))
 
-rising-fault-requires : tie.Need-rising-fault-requires
+rising-fault-requires : tie.Need-rising_fault-requires
 rising-fault-requires c κs = search rules
 
-returns-5 : tie.Need-returns-5
+returns-5 : tie.Need-returns
 returns-5 c =
-    let range = c.before.before.before in
-    let size = range.before.before.before in
-    let kind = size.before.before.before in
-    let length = kind.before.before.before in
-    pass _ length.length-fault.ensures kind.before.if1.false
-    (pass _ kind.kind-fault.ensures size.before.if2.false
-    (pass _ size.size-fault.ensures range.before.if3.false (pass _ range.range-fault.ensures c.before.if4.false c.rising-fault.ensures)))
+    let range = c in
+    let size = range in
+    let kind = size in
+    let length = kind in
+    pass _ length.length_fault-length.ensures kind.if-length-ne0.false
+    (pass _ kind.kind_fault-order.ensures size.if-order-ne0.false
+    (pass _ size.size_fault-size.ensures range.if-size-ne0.false (pass _ range.range_fault-range.ensures c.if-range-ne0.false c.rising_fault.ensures)))
 
-pub early-fault-spec : {M : Type 1} → statement M
-early-fault-spec =
+pub early_fault_spec : {M : Type 1} → statement M
+early_fault_spec =
     tie.close
     (tie.spec
     length-fault-requires

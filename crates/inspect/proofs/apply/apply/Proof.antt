@@ -12,69 +12,69 @@ use borrow.Author.Rules.{rules}
 use Rattle.inspect.proofs.apply.apply.Statement.{statement}
 use Rattle.inspect.proofs.apply.apply.Tie as tie
 
-abbrev invariant-loop : tie.invariant-loop
+abbrev invariant-loop : tie.invariant-loop-i
 invariant-loop region forced atoms values held₀ cut₀ tally₀ i₀ held cut tally i = (i ≤ forced) × Upto region atoms values i held cut tally
 
-abbrev decreases-loop : tie.decreases-loop
+abbrev decreases-loop : tie.decreases-loop-i
 decreases-loop region forced atoms values held₀ cut₀ tally₀ i₀ held cut tally i = forced - i
 
-loop-holds : tie.Need-loop-init invariant-loop decreases-loop
+loop-holds : tie.Need-loop-i-init invariant-loop decreases-loop
 loop-holds c =
-    let start = c.before.before.before.before in
+    let start = c in
     let a = start.args in
-    (omega arith, upto_start a.region a.atoms.now a.values.now (region_back a.region (eight_of a.region _ start.well-formed.0) start.requires.fit))
+    (omega arith, upto_start a.region a.atoms.now a.values.now (region_back a.region (eight_of a.region _ start.well_formed.0) start.requires.fit))
 
-mul-t12 : tie.Need-overflow-mul-t12 invariant-loop decreases-loop
+mul-t12 : tie.Need-offset_bounds-atoms-i invariant-loop decreases-loop
 mul-t12 c = search rules
 
-shared-slice-read-t14 : tie.Need-shared-slice-read-t14 invariant-loop decreases-loop
+shared-slice-read-t14 : tie.Need-bounds-atoms-i invariant-loop decreases-loop
 shared-slice-read-t14 c = search rules
 
-shared-slice-read-force : tie.Need-shared-slice-read-force invariant-loop decreases-loop
+shared-slice-read-force : tie.Need-bounds-values-i invariant-loop decreases-loop
 shared-slice-read-force c = search rules
 
-force-requires : tie.Need-force-requires invariant-loop decreases-loop
+force-requires : tie.Need-force-tally-requires invariant-loop decreases-loop
 force-requires c κs =
-    let at = c.before.before.before.before.before in
-    let few = at.before.before.before.before.before.requires.few in
-    (omega (arith, few, at.loop.invariant.1.held_few), omega (arith, few, at.loop.invariant.1.cut_few))
+    let at = c in
+    let few = at.requires.few in
+    (omega (arith, few, at.loop-i.invariant.1.held_few), omega (arith, few, at.loop-i.invariant.1.cut_few))
 
-add-i : tie.Need-overflow-add-i invariant-loop decreases-loop
+add-i : tie.Need-overflow_add-i invariant-loop decreases-loop
 add-i c = search rules
 
-loop-less : tie.Need-loop-smaller invariant-loop decreases-loop
+loop-less : tie.Need-loop-i-smaller invariant-loop decreases-loop
 loop-less c = search rules
 
-loop-again : tie.Need-loop-preserved invariant-loop decreases-loop
+loop-again : tie.Need-loop-i-preserved invariant-loop decreases-loop
 loop-again c =
-    let here = c.before.before.before.before.before.before in
-    let at = here.before in
-    let start = at.before.before.before.before.before in
+    let here = c in
+    let at = here in
+    let start = at in
     let a = start.args in (
-      omega (arith, here.loop-test.true),
-      upto_next a.region a.atoms.now a.values.now a.forced start.requires at.loop.i here.loop-test.true at.loop.held at.loop.cut
-          at.loop.tally at.loop.invariant.1 _ _ _ c.before.force.ensures c.if1.false,
+      omega (arith, here.loop-i-test.true),
+      upto_next a.region a.atoms.now a.values.now a.forced start.requires at.loop-i.i here.loop-i-test.true at.loop-i.held at.loop-i.cut
+          at.loop-i.tally at.loop-i.invariant.1 _ _ _ c.force-tally.ensures c.if-tally.false,
     )
 
-returns : tie.Need-returns invariant-loop decreases-loop
+returns : tie.Need-returns-after-loop-i invariant-loop decreases-loop
 returns c =
-    let at = c.before in
-    let start = at.before.before.before.before.before in
+    let at = c in
+    let start = at in
     let a = start.args in
-    let all : at.loop.i ≡ a.forced = omega (arith, at.loop.invariant.0) in
-    at.loop.invariant.1.is ∙ ap (λ i. applied_of (applied (begun (decisions a.region)) (forced_in a.atoms.now a.values.now i))) all
+    let all : at.loop-i.i ≡ a.forced = omega (arith, at.loop-i.invariant.0) in
+    at.loop-i.invariant.1.is ∙ ap (λ i. applied_of (applied (begun (decisions a.region)) (forced_in a.atoms.now a.values.now i))) all
 
-returns-2 : tie.Need-returns-2 invariant-loop decreases-loop
+returns-2 : tie.Need-returns-then-tally invariant-loop decreases-loop
 returns-2 c =
-    let here = c.before.before.before.before.before.before in
-    let at = here.before in
-    let start = at.before.before.before.before.before in
+    let here = c in
+    let at = here in
+    let start = at in
     let a = start.args in
-    upto_against a.region a.atoms.now a.values.now a.forced start.requires at.loop.i here.loop-test.true at.loop.held at.loop.cut
-    at.loop.tally at.loop.invariant.1 _ _ _ c.before.force.ensures c.if1.true
+    upto_against a.region a.atoms.now a.values.now a.forced start.requires at.loop-i.i here.loop-i-test.true at.loop-i.held at.loop-i.cut
+    at.loop-i.tally at.loop-i.invariant.1 _ _ _ c.force-tally.ensures c.if-tally.true
 
-pub apply-spec : {M : Type 1} → statement M
-apply-spec =
+pub apply_spec : {M : Type 1} → statement M
+apply_spec =
     tie.close
     (tie.spec
     invariant-loop

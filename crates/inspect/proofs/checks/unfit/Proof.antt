@@ -23,27 +23,27 @@ use Rattle.inspect.proofs.checks.unfit.Tie as tie
 overfull-requires : tie.Need-overfull-requires
 overfull-requires c κs = search rules
 
-returns : tie.Need-returns
-returns c = refuses _ 10 _ (sym c.before.overfull.ensures ∙ c.if1.true)
+returns : tie.Need-returns-then-overfull
+returns c = refuses _ 10 _ (sym c.overfull.ensures ∙ c.if-overfull.true)
 
 least-requires : tie.Need-least-requires
 least-requires c κs = search rules
 
 -- ---- the arguments, from after each test
 
-abbrev at1 : tie.Else1 → tie.Start
+abbrev at1 : tie.Else-overfull → tie.Start
 at1 c = c.before.before.before.before.before.before
 
-abbrev at2 : tie.Else2 → tie.Start
+abbrev at2 : tie.Else-system-least → tie.Start
 at2 c = at1 c.before.before.before
 
-abbrev at3 : tie.Else3 → tie.Start
+abbrev at3 : tie.Else-lent-eq9 → tie.Start
 at3 c = at2 c.before.before
 
-abbrev at4 : tie.Else4 → tie.Start
+abbrev at4 : tie.Else-lists_short → tie.Start
 at4 c = at3 c.before.before
 
-abbrev at6 : tie.Else6 → tie.Start
+abbrev at6 : tie.Else-number-ne0 → tie.Start
 at6 c = at4 c.before.before.before
 
 abbrev lent : tie.Start → Filled
@@ -51,28 +51,28 @@ lent c = let a = c.args in filled a.rows.now a.constants.now a.basis.now a.index
 
 -- ---- what the tests that are passed say
 
-within : (c : tie.Else1) → let a = (at1 c).args in overfull_by a.system a.region a.known ≡ false
-within c = sym c.before.overfull.ensures ∙ c.if1.false
+within : (c : tie.Else-overfull) → let a = (at1 c).args in overfull_by a.system a.region a.known ≡ false
+within c = sym c.overfull.ensures ∙ c.if-overfull.false
 
-bounds : (c : tie.Else1) → let a = (at1 c).args in Limits a.system a.region
+bounds : (c : tie.Else-overfull) → let a = (at1 c).args in Limits a.system a.region
 bounds c = let a = (at1 c).args in limits a.system a.region a.known (within c)
 
-ranked : (c : tie.Else2) → let s = (at2 c).args.system in s.rank ≤ min s.rows s.atoms
-ranked c = omega (arith, c.before.before.least.ensures, c.if2.false)
+ranked : (c : tie.Else-system-least) → let s = (at2 c).args.system in s.rank ≤ min s.rows s.atoms
+ranked c = omega (arith, c.least.ensures, c.if-system-least.false)
 
-enough : (c : tie.Else3) → let a = (at3 c).args in short a.system.atoms a.system.rows a.rows.now a.constants.now ≡ false
+enough : (c : tie.Else-lent-eq9) → let a = (at3 c).args in short a.system.atoms a.system.rows a.rows.now a.constants.now ≡ false
 enough c =
     let a = (at3 c).args in
     let few = bounds c.before.before.before.before.before in
-    let rows = c.before.rows-number in
-    lent_enough a.system.atoms a.system.rows a.rows.now a.constants.now few.atoms few.rows rows.result rows.ensures c.if3.false
+    let rows = c.rows_number-lent in
+    lent_enough a.system.atoms a.system.rows a.rows.now a.constants.now few.atoms few.rows rows.result rows.ensures c.if-lent-eq9.false
 
-roomy : (c : tie.Else4)
+roomy : (c : tie.Else-lists_short)
     → let a = (at4 c).args in
     lists_short a.system (length a.basis.now) (length a.index.now) a.atoms a.values ≡ false
-roomy c = sym c.before.lists-short.ensures ∙ c.if4.false
+roomy c = sym c.lists_short.ensures ∙ c.if-lists_short.false
 
-early : (c : tie.Else5)
+early : (c : tie.Else-lent-eq11)
     → let t = at4 c.before in
     let a = t.args in
     (k : ℕ) → k ≡ refusal ((11, strayed a.region) ∷ (12, clashes a.region) ∷ late a.over a.system (lent t) a.region a.known)
@@ -80,126 +80,126 @@ early : (c : tie.Else5)
 early c =
     let t = at4 c.before in
     let a = t.args in
-    let third = c.before.before.before in
-    let first = third.before.before.before.before.before in
-    let few = bounds first in
-    let rows = third.before.rows-number in
+    let third = c in
+    let first = third in
+    let few = bounds first.before.before.before.before.before.before.before.before in
+    let rows = third.rows_number-lent in
     let clean =
     lent_clean a.system.atoms a.system.rows a.rows.now a.constants.now few.atoms few.rows rows.result rows.ensures
-    third.if3.false c.if5.false in
-    after_rows a.over a.system (lent t) a.region a.known a.atoms a.values (within first) (ranked third.before.before) (enough third)
+    third.if-lent-eq9.false c.if-lent-eq11.false in
+    after_rows a.over a.system (lent t) a.region a.known a.atoms a.values (within first.before.before.before.before.before.before.before.before) (ranked third.before.before.before.before.before) (enough third.before.before.before)
     (roomy c.before) clean
 
-settled : (c : tie.Else6)
+settled : (c : tie.Else-number-ne0)
     → let t = at6 c in
     let a = t.args in
     (k : ℕ) → k ≡ refusal (late a.over a.system (lent t) a.region a.known)
     → k ≡ inspect_over_unfit a.over a.system (lent t) a.region a.known a.atoms a.values
-settled c k is = early c.before.before k (region_passes (at6 c).args.region (sym c.before.number.ensures ∙ c.if6.false) is)
+settled c k is = early c.before.before k (region_passes (at6 c).args.region (sym c.number-number.ensures ∙ c.if-number-ne0.false) is)
 
 -- ---- the answers
 
-returns-2 : tie.Need-returns-2
+returns-2 : tie.Need-returns-then-system-least
 returns-2 c =
-    let first = c.before.before.before in
-    let rank = (at1 first).args.system.rank in
-    passes _ 10 (within first)
-    (refuses _ 13 _ (ap (λ (m : ℕ). ltb m rank) (sym c.before.before.least.ensures) ∙ lt-ltb _ _ c.if2.true))
+    let first = c in
+    let rank = (at1 first.before.before.before).args.system.rank in
+    passes _ 10 (within first.before.before.before)
+    (refuses _ 13 _ (ap (λ (m : ℕ). ltb m rank) (sym c.least.ensures) ∙ lt-ltb _ _ c.if-system-least.true))
 
-rows-number-requires : tie.Need-rows-number-requires
+rows-number-requires : tie.Need-rows_number-lent-requires
 rows-number-requires c κs = search rules
 
-returns-3 : tie.Need-returns-3
+returns-3 : tie.Need-returns-then-lent-eq9
 returns-3 c =
-    let second = c.before.before in
-    let first = second.before.before.before in
-    let few = bounds first in
-    let a = (at1 first).args in
-    let rows = c.before.rows-number in
+    let second = c in
+    let first = second in
+    let few = bounds first.before.before.before.before.before in
+    let a = (at1 first.before.before.before.before.before).args in
+    let rows = c.rows_number-lent in
     let little =
-    lent_short a.system.atoms a.system.rows a.rows.now a.constants.now few.atoms few.rows rows.result rows.ensures c.if3.true in
-    passes _ 10 (within first) (passes _ 13 (le-ltb _ _ (ranked second)) (refuses _ 9 _ (or_left _ _ little)))
+    lent_short a.system.atoms a.system.rows a.rows.now a.constants.now few.atoms few.rows rows.result rows.ensures c.if-lent-eq9.true in
+    passes _ 10 (within first.before.before.before.before.before) (passes _ 13 (le-ltb _ _ (ranked second.before.before)) (refuses _ 9 _ (or_left _ _ little)))
 
-lists-short-requires : tie.Need-lists-short-requires
+lists-short-requires : tie.Need-lists_short-requires
 lists-short-requires c κs =
-    let second = c.before.before in
-    let few = (bounds second.before.before.before).atoms in
-    (few, omega (arith, ranked second))
+    let second = c in
+    let few = (bounds second.before.before.before.before.before).atoms in
+    (few, omega (arith, ranked second.before.before))
 
-returns-4 : tie.Need-returns-4
+returns-4 : tie.Need-returns-then-lists_short
 returns-4 c =
-    let second = c.before.before.before.before in
-    let a = (at2 second).args in
-    let little = sym c.before.lists-short.ensures ∙ c.if4.true in
-    passes _ 10 (within second.before.before.before)
-    (passes _ 13 (le-ltb _ _ (ranked second))
+    let second = c in
+    let a = (at2 second.before.before.before.before).args in
+    let little = sym c.lists_short.ensures ∙ c.if-lists_short.true in
+    passes _ 10 (within second.before.before.before.before.before.before.before)
+    (passes _ 13 (le-ltb _ _ (ranked second.before.before.before.before))
     (refuses _ 9 _ (or_right (short a.system.atoms a.system.rows a.rows.now a.constants.now) _ little)))
 
-returns-5 : tie.Need-returns-5
+returns-5 : tie.Need-returns-then-lent-eq11
 returns-5 c =
-    let third = c.before.before.before in
-    let second = third.before.before in
-    let first = second.before.before.before in
-    let few = bounds first in
-    let a = (at1 first).args in
-    let rows = third.before.rows-number in
+    let third = c in
+    let second = third in
+    let first = second in
+    let few = bounds first.before.before.before.before.before.before.before.before in
+    let a = (at1 first.before.before.before.before.before.before.before.before).args in
+    let rows = third.rows_number-lent in
     let stray =
-    lent_strays a.system.atoms a.system.rows a.rows.now a.constants.now few.atoms few.rows rows.result rows.ensures c.if5.true in
-    passes _ 10 (within first)
-    (passes _ 13 (le-ltb _ _ (ranked second)) (passes _ 9 (ap₂ ◌||◌ (enough third) (roomy c.before)) (refuses _ 11 _ (or_left _ _ stray))))
+    lent_strays a.system.atoms a.system.rows a.rows.now a.constants.now few.atoms few.rows rows.result rows.ensures c.if-lent-eq11.true in
+    passes _ 10 (within first.before.before.before.before.before.before.before.before)
+    (passes _ 13 (le-ltb _ _ (ranked second.before.before.before.before.before)) (passes _ 9 (ap₂ ◌||◌ (enough third.before.before.before) (roomy c.before)) (refuses _ 11 _ (or_left _ _ stray))))
 
-number-requires : tie.Need-number-requires
+number-requires : tie.Need-number-number-requires
 number-requires c κs = search rules
 
-returns-6 : tie.Need-returns-6
+returns-6 : tie.Need-returns-then-number-ne0
 returns-6 c =
-    let fifth = c.before.before in
-    let first = fifth.before.before.before.before.before.before.before.before in
-    let t = at1 first in
+    let fifth = c in
+    let first = fifth in
+    let t = at1 first.before.before.before.before.before.before.before.before.before.before in
     let a = t.args in
-    let number = c.before.number in
-    early fifth number.result
-    (region_refuses a.region number.result (refusal (late a.over a.system (lent t) a.region a.known)) (bounds first).region number.ensures c.if6.true)
+    let number = c.number-number in
+    early fifth.before.before number.result
+    (region_refuses a.region number.result (refusal (late a.over a.system (lent t) a.region a.known)) (bounds first.before.before.before.before.before.before.before.before.before.before).region number.ensures c.if-number-ne0.true)
 
 -- the basis is long enough
-entries : (c : tie.Else4) → let a = (at4 c).args in min a.system.rows a.system.atoms ≤ length a.basis.now
+entries : (c : tie.Else-lists_short) → let a = (at4 c).args in min a.system.rows a.system.atoms ≤ length a.basis.now
 entries c =
     let a = (at4 c).args in
     ltb-false _ _ (or_none (ltb (length a.basis.now) (min a.system.rows a.system.atoms)) _ (roomy c)).0
 
-any-misnames-requires : tie.Need-any-misnames-requires
+any-misnames-requires : tie.Need-any_misnames-requires
 any-misnames-requires c κs = search rules
 
 -- what `any_misnames` answers
-misnamed : (c : tie.After-any-misnames)
+misnamed : (c : tie.After-any_misnames)
     → let a = (at6 c.before).args in
-    c.any-misnames.result ≡ misnames a.system.rows a.basis.now a.system.rank
+    c.any_misnames.result ≡ misnames a.system.rows a.basis.now a.system.rank
 misnamed c =
     let a = (at6 c.before).args in
-    let fourth = c.before.before.before.before in
-    let room : a.system.rank ≤ length a.basis.now = omega (arith, ranked fourth.before.before.before.before, entries fourth) in
-    c.any-misnames.ensures ∙ misnames_all a.system.rows a.basis.now a.system.rank room
+    let fourth = c in
+    let room : a.system.rank ≤ length a.basis.now = omega (arith, ranked fourth.before.before.before.before.before.before.before.before, entries fourth.before.before.before.before) in
+    c.any_misnames.ensures ∙ misnames_all a.system.rows a.basis.now a.system.rank room
 
-returns-7 : tie.Need-returns-7
-returns-7 c = settled c.before.before 13 (refuses _ 13 _ (sym (misnamed c.before) ∙ c.if7.true))
+returns-7 : tie.Need-returns-then-any_misnames
+returns-7 c = settled c.before.before 13 (refuses _ 13 _ (sym (misnamed c.before) ∙ c.if-any_misnames.true))
 
-named : (c : tie.Else7) → let a = (at6 c.before.before).args in misnames a.system.rows a.basis.now a.system.rank ≡ false
-named c = sym (misnamed c.before) ∙ c.if7.false
+named : (c : tie.Else-any_misnames) → let a = (at6 c.before.before).args in misnames a.system.rows a.basis.now a.system.rank ≡ false
+named c = sym (misnamed c.before) ∙ c.if-any_misnames.false
 
-returns-8 : tie.Need-returns-8
+returns-8 : tie.Need-returns-then-over
 returns-8 c =
-    let seventh = c.before in
-    settled seventh.before.before 14 (passes _ 13 (named seventh) (refuses _ 14 _ c.if8.true))
+    let seventh = c in
+    settled seventh.before.before.before 14 (passes _ 13 (named seventh.before) (refuses _ 14 _ c.if-over.true))
 
 unequal-requires : tie.Need-unequal-requires
 unequal-requires c κs = search rules
 
-returns-9 : tie.Need-returns-9
+returns-9 : tie.Need-returns-then-unequal
 returns-9 c =
-    let eighth = c.before.before in
-    let seventh = eighth.before in
-    settled seventh.before.before 15
-    (passes _ 13 (named seventh) (passes _ 14 eighth.if8.false (refuses _ 15 _ (sym c.before.unequal.ensures ∙ c.if9.true))))
+    let eighth = c in
+    let seventh = eighth in
+    settled seventh.before.before.before.before.before 15
+    (passes _ 13 (named seventh.before.before.before) (passes _ 14 eighth.if-over.false (refuses _ 15 _ (sym c.unequal.ensures ∙ c.if-unequal.true))))
 
 missing-requires : tie.Need-missing-requires
 missing-requires c κs = search rules
@@ -210,21 +210,21 @@ last : (c : tie.After-missing)
     let a = t.args in
     cond c.missing.result 16 0 ≡ inspect_over_unfit a.over a.system (lent t) a.region a.known a.atoms a.values
 last c =
-    let eighth = c.before.before.before in
-    let seventh = eighth.before in
-    settled seventh.before.before (cond c.missing.result 16 0)
-    (passes _ 13 (named seventh)
-    (passes _ 14 eighth.if8.false
-    (passes _ 15 (sym c.before.before.unequal.ensures ∙ c.before.if9.false) (ap (λ (t : Bool). cond t 16 0) c.missing.ensures))))
+    let eighth = c in
+    let seventh = eighth in
+    settled seventh.before.before.before.before.before.before (cond c.missing.result 16 0)
+    (passes _ 13 (named seventh.before.before.before.before)
+    (passes _ 14 eighth.if-over.false
+    (passes _ 15 (sym c.unequal.ensures ∙ c.if-unequal.false) (ap (λ (t : Bool). cond t 16 0) c.missing.ensures))))
 
-returns-10 : tie.Need-returns-10
-returns-10 c = sym (ap (λ (t : Bool). cond t 16 0) c.if10.true) ∙ last c.before
+returns-10 : tie.Need-returns-then-missing
+returns-10 c = sym (ap (λ (t : Bool). cond t 16 0) c.if-missing.true) ∙ last c.before
 
-returns-11 : tie.Need-returns-11
-returns-11 c = sym (ap (λ (t : Bool). cond t 16 0) c.if10.false) ∙ last c.before
+returns-11 : tie.Need-returns
+returns-11 c = sym (ap (λ (t : Bool). cond t 16 0) c.if-missing.false) ∙ last c.before
 
-pub unfit-spec : {M : Type 1} → statement M
-unfit-spec =
+pub unfit_spec : {M : Type 1} → statement M
+unfit_spec =
     tie.close
     (tie.spec
     overfull-requires

@@ -22,50 +22,50 @@ as-told : (c : tie.Start) (r : Reading) → c.args.reading ≡ r →
     × (values_noted r a.at a.values.now ≡ values_noted a.reading a.at a.values.now))
 as-told c r is = rw is (refl, (refl, refl))
 
-enum_told : tie.Need-enum-told
+enum_told : tie.Need-enum_told-1
 enum_told c = search rules
 
-enum-known-reading : tie.Need-enum-known-reading
+enum-known-reading : tie.Need-enum_known-reading
 enum-known-reading c = search rules
 
-mul-atoms : tie.Need-overflow-mul-atoms
+mul-atoms : tie.Need-offset_bounds-atoms-at
 mul-atoms c = search rules
 
-slice-write-atoms : tie.Need-slice-write-atoms
+slice-write-atoms : tie.Need-bounds-atoms-at
 slice-write-atoms c = search rules
 
-cast-values : tie.Need-overflow-cast-values
+cast-values : tie.Need-overflow_cast-values
 cast-values c = search rules
 
-slice-write-values : tie.Need-slice-write-values
+slice-write-values : tie.Need-bounds-values-at
 slice-write-values c = search rules
 
-add-result : tie.Need-overflow-add-result
+add-result : tie.Need-overflow_add-result
 add-result c = search rules
 
-enum-told-2 : tie.Need-enum-told-2
+enum-told-2 : tie.Need-enum_told-in-Wrong
 enum-told-2 c = search rules
 
-returns : tie.Need-returns
-returns c = as-told c.before.before _ c.enum_told.given.1
+returns : tie.Need-returns-in-Quiet
+returns c = as-told c.before _ c.in-Quiet.is
 
-same_length : tie.Need-same-length
+same_length : tie.Need-shape_of-atoms
 same_length c = search rules
 
-same-length-2 : tie.Need-same-length-2
+same-length-2 : tie.Need-shape_of-values
 same-length-2 c = search rules
 
-returns-2 : tie.Need-returns-2
+returns-2 : tie.Need-returns-in-Forces
 returns-2 c =
-    let start = c.before.before.before in
-    let told = as-told start _ c.before.reading.given.1 in
-    (told.0, (told.1.0, ap (set start.args.values.now start.args.at) (byte c.before.reading.given.0.1.0) ∙ told.1.1))
+    let start = c in
+    let told = as-told start.before _ c.in-Forces.is in
+    (told.0, (told.1.0, ap (set start.args.values.now start.args.at) (byte c.in-Forces.value) ∙ told.1.1))
 
-returns-3 : tie.Need-returns-3
-returns-3 c = as-told c.before.before _ c.enum-told2.given.1
+returns-3 : tie.Need-returns-in-Wrong
+returns-3 c = as-told c.before _ c.in-Wrong.is
 
-pub note-spec : {M : Type 1} → statement M
-note-spec =
+pub note_spec : {M : Type 1} → statement M
+note_spec =
     tie.close
     (tie.spec
     enum_told

@@ -6,5 +6,5 @@ use Rattle.inspect.proofs.promises.forced_follow.Tie as tie
 returns : tie.Need-returns
 returns c = forced_follow
 
-pub forced-follow-spec : {M : Type 1} → statement M
-forced-follow-spec = tie.close (tie.spec returns)
+pub forced_follow_spec : {M : Type 1} → statement M
+forced_follow_spec = tie.close (tie.spec returns)

@@ -6,5 +6,5 @@ use Rattle.inspect.proofs.promises.knowledge_ancestor.Tie as tie
 returns : tie.Need-returns
 returns c = knowledge_ancestor
 
-pub knowledge-ancestor-spec : {M : Type 1} → statement M
-knowledge-ancestor-spec = tie.close (tie.spec returns)
+pub knowledge_ancestor_spec : {M : Type 1} → statement M
+knowledge_ancestor_spec = tie.close (tie.spec returns)

@@ -6,5 +6,5 @@ use Rattle.inspect.proofs.promises.never_refused.Tie as tie
 returns : tie.Need-returns
 returns c = never_refused
 
-pub never-refused-spec : {M : Type 1} → statement M
-never-refused-spec = tie.close (tie.spec returns)
+pub never_refused_spec : {M : Type 1} → statement M
+never_refused_spec = tie.close (tie.spec returns)

@@ -6,5 +6,5 @@ use Rattle.inspect.proofs.promises.prepared_refuted.Tie as tie
 returns : tie.Need-returns
 returns c = prepared_refuted
 
-pub prepared-refuted-spec : {M : Type 1} → statement M
-prepared-refuted-spec = tie.close (tie.spec returns)
+pub prepared_refuted_spec : {M : Type 1} → statement M
+prepared_refuted_spec = tie.close (tie.spec returns)

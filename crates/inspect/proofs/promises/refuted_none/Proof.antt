@@ -6,5 +6,5 @@ use Rattle.inspect.proofs.promises.refuted_none.Tie as tie
 returns : tie.Need-returns
 returns c = refuted_none
 
-pub refuted-none-spec : {M : Type 1} → statement M
-refuted-none-spec = tie.close (tie.spec returns)
+pub refuted_none_spec : {M : Type 1} → statement M
+refuted_none_spec = tie.close (tie.spec returns)

@@ -6,5 +6,5 @@ use Rattle.inspect.proofs.promises.region_gains.Tie as tie
 returns : tie.Need-returns
 returns c = region_gains
 
-pub region-gains-spec : {M : Type 1} → statement M
-region-gains-spec = tie.close (tie.spec returns)
+pub region_gains_spec : {M : Type 1} → statement M
+region_gains_spec = tie.close (tie.spec returns)

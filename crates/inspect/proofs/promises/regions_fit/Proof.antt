@@ -6,5 +6,5 @@ use Rattle.inspect.proofs.promises.regions_fit.Tie as tie
 returns : tie.Need-returns
 returns c = regions_fit
 
-pub regions-fit-spec : {M : Type 1} → statement M
-regions-fit-spec = tie.close (tie.spec returns)
+pub regions_fit_spec : {M : Type 1} → statement M
+regions_fit_spec = tie.close (tie.spec returns)

@@ -12,41 +12,41 @@ use Rattle.inspect.proofs.says.shared.Tie as tie
 width-requires : tie.Need-width-requires
 width-requires c κs = search rules
 
-overlap-count-requires : tie.Need-overlap-count-requires
+overlap-count-requires : tie.Need-overlap_count-requires
 overlap-count-requires c κs = search rules
 
-enum-known-k : tie.Need-enum-known-k
+enum-known-k : tie.Need-enum_known-k
 enum-known-k c = search rules
 
-enum_told : tie.Need-enum-told
+enum_told : tie.Need-enum_told-1
 enum_told c = search rules
 
-answer : (c : tie.After-overlap-count) →
-    let a = c.before.before.before.before.before.args in
-    c.overlap-count.result ≡ overlap_count_of (width_of a.n) a.rows.now a.number a.mask.now
+answer : (c : tie.After-overlap_count) →
+    let a = c.args in
+    c.overlap_count.result ≡ overlap_count_of (width_of a.n) a.rows.now a.number a.mask.now
 answer c =
-    let wide = c.before.before in
-    let a = wide.before.before.before.args in
-    c.overlap-count.ensures ∙ ap (λ (w : ℕ). overlap_count_of w a.rows.now a.number a.mask.now) wide.width.ensures
+    let wide = c in
+    let a = wide.args in
+    c.overlap_count.ensures ∙ ap (λ (w : ℕ). overlap_count_of w a.rows.now a.number a.mask.now) wide.width.ensures
 
-returns : tie.Need-returns
+returns : tie.Need-returns-in-Atoms
 returns c =
-    let arm = c.before in
-    let called = arm.before.before in
-    let start = called.before.before.before.before.before in
+    let arm = c in
+    let called = arm in
+    let start = called in
     let a = start.args in
     let eight : length a.mask.now ≡ 8 = search rules in
-    count_is a.n a.rows.now a.constants.now a.number a.mask.now start.requires eight called.overlap-count.result (answer called) arm.k.given.0.0 arm.k.given.1
+    count_is a.n a.rows.now a.constants.now a.number a.mask.now start.requires eight called.overlap_count.result (answer called.before) arm.in-Atoms.k arm.in-Atoms.is
 
-returns-2 : tie.Need-returns-2
+returns-2 : tie.Need-returns-in-Outside
 returns-2 c =
-    let called = c.before.before in
-    let start = called.before.before.before.before.before in
+    let called = c in
+    let start = called in
     let a = start.args in
     let eight : length a.mask.now ≡ 8 = search rules in
-    absurd (count_inside a.n a.rows.now a.constants.now a.number a.mask.now start.requires eight called.overlap-count.result (answer called) c.enum_told.given.1)
+    absurd (count_inside a.n a.rows.now a.constants.now a.number a.mask.now start.requires eight called.overlap_count.result (answer called.before) c.in-Outside.is)
 
-pub shared-spec : {M : Type 1} → statement M
-shared-spec =
+pub shared_spec : {M : Type 1} → statement M
+shared_spec =
     tie.close
     (tie.spec width-requires overlap-count-requires enum-known-k enum_told returns returns-2)

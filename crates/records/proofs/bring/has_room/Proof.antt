@@ -7,11 +7,11 @@ use Rattle.record.proofs.Chain.{leb_same}
 use Rattle.records.proofs.bring.has_room.Statement.{statement}
 use Rattle.records.proofs.bring.has_room.Tie as tie
 
-returns : tie.Need-returns
-returns c = let a = c.before.args in sym (lt-leb (a.rows + a.more) 512 (omega arith))
+returns : tie.Need-returns-then-rows-gt512
+returns c = let a = c.args in sym (lt-leb (a.rows + a.more) 512 (omega arith))
 
-returns-2 : tie.Need-returns-2
-returns-2 c = let a = c.before.args in leb_same a.more (512 - a.rows) (a.rows + a.more) 512 (λ h. omega arith) (λ h. omega arith)
+returns-2 : tie.Need-returns
+returns-2 c = let a = c.args in leb_same a.more (512 - a.rows) (a.rows + a.more) 512 (λ h. omega arith) (λ h. omega arith)
 
-pub has-room-spec : {M : Type 1} → statement M
-has-room-spec = tie.close (tie.spec returns returns-2)
+pub has_room_spec : {M : Type 1} → statement M
+has_room_spec = tie.close (tie.spec returns returns-2)

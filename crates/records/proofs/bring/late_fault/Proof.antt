@@ -6,17 +6,17 @@ use borrow.Author.Rules.{rules}
 use Rattle.records.proofs.bring.late_fault.Statement.{statement}
 use Rattle.records.proofs.bring.late_fault.Tie as tie
 
-has-room-requires : tie.Need-has-room-requires
+has-room-requires : tie.Need-has_room-requires
 has-room-requires c κs = search rules
 
 unless-requires : tie.Need-unless-requires
 unless-requires c κs = search rules
 
-returns : tie.Need-returns
-returns c = simp c.before.before.if1.true (c.unless.ensures ∙ ap (λ (t : Bool). unless t 7 c.before.before.before.args.o) c.before.has_room.ensures)
+returns : tie.Need-returns-then-brought
+returns c = simp c.if-brought.true (c.unless.ensures ∙ ap (λ (t : Bool). unless t 7 c.args.o) c.has_room.ensures)
 
-returns-2 : tie.Need-returns-2
-returns-2 c = simp c.if1.false
+returns-2 : tie.Need-returns
+returns-2 c = simp c.if-brought.false
 
-pub late-fault-spec : {M : Type 1} → statement M
-late-fault-spec = tie.close (tie.spec has-room-requires unless-requires returns returns-2)
+pub late_fault_spec : {M : Type 1} → statement M
+late_fault_spec = tie.close (tie.spec has-room-requires unless-requires returns returns-2)

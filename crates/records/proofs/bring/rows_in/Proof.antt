@@ -12,30 +12,30 @@ use borrow.Author.Rules.{rules}
 use Rattle.records.proofs.bring.rows_in.Statement.{statement}
 use Rattle.records.proofs.bring.rows_in.Tie as tie
 
-returns : tie.Need-returns
+returns : tie.Need-returns-then-kind-eq2
 unfolding exact_at rows_at
 returns c =
-    let a = c.before.before.args in
+    let a = c.args in
     let z : a.kind ≡ 3 → ⊥ = λ e. omega arith in
-    (simp (ne_eqb _ _ z), simp (eq-eqb _ _ c.if1.true))
+    (simp (ne_eqb _ _ z), simp (eq-eqb _ _ c.if-kind-eq2.true))
 
-table-requires : tie.Need-table-requires
+table-requires : tie.Need-table-p-requires
 table-requires c κs = search rules
 
-returns-2 : tie.Need-returns-2
+returns-2 : tie.Need-returns-then-kind-eq3
 unfolding exact_at rows_at
 returns-2 c =
     let call = c in
-    let start = c.before.before.before.before in
+    let start = c in
     let a = start.args in
-    let three = call.before.if2.true in
+    let three = call.if-kind-eq3.true in
     let words = table_at a.file.now a.o in
-    let told = call.table.ensures ∙ fit (k_at a.file.now a.o) words (start.requires three) (list_length (table_word_at a.file.now a.o) 0 (table_words (k_at a.file.now a.o))) in
-    (simp (eq-eqb _ _ three) (ap (λ (p : Proposal). p.hull.exact) told), simp (ne_eqb _ _ call.before.before.if1.false, eq-eqb _ _ three) (ap (λ (p : Proposal). p.hull.count) told))
+    let told = call.table-p.ensures ∙ fit (k_at a.file.now a.o) words (start.requires three) (list_length (table_word_at a.file.now a.o) 0 (table_words (k_at a.file.now a.o))) in
+    (simp (eq-eqb _ _ three) (ap (λ (p : Proposal). p.hull.exact) told), simp (ne_eqb _ _ call.if-kind-eq2.false, eq-eqb _ _ three) (ap (λ (p : Proposal). p.hull.count) told))
 
-returns-3 : tie.Need-returns-3
+returns-3 : tie.Need-returns
 unfolding exact_at rows_at
-returns-3 c = (simp (ne_eqb _ _ c.if2.false), simp (ne_eqb _ _ c.before.if1.false, ne_eqb _ _ c.if2.false))
+returns-3 c = (simp (ne_eqb _ _ c.if-kind-eq3.false), simp (ne_eqb _ _ c.if-kind-eq2.false, ne_eqb _ _ c.if-kind-eq3.false))
 
-pub rows-in-spec : {M : Type 1} → statement M
-rows-in-spec = tie.close (tie.spec returns table-requires returns-2 returns-3)
+pub rows_in_spec : {M : Type 1} → statement M
+rows_in_spec = tie.close (tie.spec returns table-requires returns-2 returns-3)

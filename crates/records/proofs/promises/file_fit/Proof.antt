@@ -6,5 +6,5 @@ use Rattle.records.proofs.promises.file_fit.Tie as tie
 returns : tie.Need-returns
 returns c = file_fit
 
-pub file-fit-spec : {M : Type 1} → statement M
-file-fit-spec = tie.close (tie.spec returns)
+pub file_fit_spec : {M : Type 1} → statement M
+file_fit_spec = tie.close (tie.spec returns)

@@ -6,5 +6,5 @@ use Rattle.records.proofs.promises.file_within.Tie as tie
 returns : tie.Need-returns
 returns c = file_within
 
-pub file-within-spec : {M : Type 1} → statement M
-file-within-spec = tie.close (tie.spec returns)
+pub file_within_spec : {M : Type 1} → statement M
+file_within_spec = tie.close (tie.spec returns)

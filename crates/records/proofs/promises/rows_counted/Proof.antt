@@ -6,5 +6,5 @@ use Rattle.records.proofs.promises.rows_counted.Tie as tie
 returns : tie.Need-returns
 returns c = rows_counted
 
-pub rows-counted-spec : {M : Type 1} → statement M
-rows-counted-spec = tie.close (tie.spec returns)
+pub rows_counted_spec : {M : Type 1} → statement M
+rows_counted_spec = tie.close (tie.spec returns)
