@@ -10,70 +10,70 @@ use borrow.Author.Rules.{rules}
 use Rattle.load.proofs.load_record.Statement.{statement}
 use Rattle.load.proofs.load_record.Tie as tie
 
-short-requires : tie.Need-short-requires
+short-requires : tie.Need-short-kind-requires
 short-requires c κs = search rules
 
-load-row-requires : tie.Need-load-row-requires
+load-row-requires : tie.Need-load_row-requires
 load-row-requires c κs =
-    let call = c.before.before.before in
-    let start = call.before.before.before.before in
+    let call = c in
+    let start = call in
     let a = start.args in
-    let is = sym call.short.ensures.0 ∙ c.before.before.if1.true in
+    let is = sym call.short-kind.ensures.0 ∙ c.if-kind-eq2.true in
     let fit = start.requires.0.row is in
     (fit.0, fit.1, subst (λ (rs : List Row). Room (width_of a.n) rs a.rows.now a.constants.now a.at) (here_row a.file.now a.n a.o is) start.requires.1)
 
-same_length : tie.Need-same-length
+same_length : tie.Need-shape_of-rows-then-kind-eq2
 same_length c = search rules
 
-same-length-2 : tie.Need-same-length-2
+same-length-2 : tie.Need-shape_of-constants-then-kind-eq2
 same-length-2 c = search rules
 
-returns : tie.Need-returns
+returns : tie.Need-returns-then-kind-eq2
 returns c =
-    let done = c.before.before.before.before in
-    let then = done.before.before.before in
-    let call = then.before in
-    let a = call.before.before.before.before.args in
-    let is = sym call.short.ensures.0 ∙ then.if1.true in
+    let done = c in
+    let then = done in
+    let call = then in
+    let a = call.args in
+    let is = sym call.short-kind.ensures.0 ∙ then.if-kind-eq2.true in
     subst (λ (rs : List Row). Loaded (width_of a.n) rs a.rows.now a.constants.now a.at done.Load-row.new.1.1.1.0 done.Load-row.new.1.1.1.1.0 done.Load-row.result)
     (sym (here_row a.file.now a.n a.o is)) done.Load-row.ensures
 
-load-table-requires : tie.Need-load-table-requires
+load-table-requires : tie.Need-load_table-requires
 load-table-requires c κs =
-    let call = c.before.before.before.before in
-    let start = call.before.before.before.before in
+    let call = c in
+    let start = call in
     let a = start.args in
-    let is = sym call.short.ensures.0 ∙ c.before.before.if2.true in
+    let is = sym call.short-kind.ensures.0 ∙ c.if-kind-eq3.true in
     let fit = start.requires.0.table is in
     (fit.0, fit.1, subst (λ (rs : List Row). Room (width_of a.n) rs a.rows.now a.constants.now a.at) (here_table a.file.now a.n a.o is) start.requires.1)
 
-same-length-3 : tie.Need-same-length-3
+same-length-3 : tie.Need-shape_of-rows-then-kind-eq3
 same-length-3 c = search rules
 
-same-length-4 : tie.Need-same-length-4
+same-length-4 : tie.Need-shape_of-constants-then-kind-eq3
 same-length-4 c = search rules
 
-returns-2 : tie.Need-returns-2
+returns-2 : tie.Need-returns-then-kind-eq3
 returns-2 c =
-    let done = c.before.before.before.before in
-    let then = done.before.before.before in
-    let call = then.before.before in
-    let a = call.before.before.before.before.args in
-    let is = sym call.short.ensures.0 ∙ then.if2.true in
-    subst (λ (rs : List Row). Loaded (width_of a.n) rs a.rows.now a.constants.now a.at done.load-table.new.1.1.1.0 done.load-table.new.1.1.1.1.0 done.load-table.result)
-    (sym (here_table a.file.now a.n a.o is)) done.load-table.ensures
+    let done = c in
+    let then = done in
+    let call = then in
+    let a = call.args in
+    let is = sym call.short-kind.ensures.0 ∙ then.if-kind-eq3.true in
+    subst (λ (rs : List Row). Loaded (width_of a.n) rs a.rows.now a.constants.now a.at done.load_table.new.rows done.load_table.new.constants done.load_table.result)
+    (sym (here_table a.file.now a.n a.o is)) done.load_table.ensures
 
-returns-3 : tie.Need-returns-3
+returns-3 : tie.Need-returns
 returns-3 c =
-    let call = c.before.before in
-    let a = call.before.before.before.before.args in
-    let kind = call.short.ensures.0 in
-    let none = here_none a.file.now a.n a.o (λ e. c.before.if1.false (kind ∙ e)) (λ e. c.if2.false (kind ∙ e)) in
+    let call = c in
+    let a = call.args in
+    let kind = call.short-kind.ensures.0 in
+    let none = here_none a.file.now a.n a.o (λ e. c.if-kind-eq2.false (kind ∙ e)) (λ e. c.if-kind-eq3.false (kind ∙ e)) in
     subst (λ (rs : List Row). Loaded (width_of a.n) rs a.rows.now a.constants.now a.at a.rows.now a.constants.now a.at) (sym none)
     (none_loaded (width_of a.n) a.rows.now a.constants.now a.at)
 
-pub load-record-spec : {M : Type 1} → statement M
-load-record-spec =
+pub load_record_spec : {M : Type 1} → statement M
+load_record_spec =
     tie.close
     (tie.spec
     short-requires

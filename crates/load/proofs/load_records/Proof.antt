@@ -22,78 +22,78 @@ use Rattle.load.proofs.load_records.Tie as tie
 abbrev from : List ℕ → ℕ → ℕ → List Row
 from file n o = all_rows n (parts_from file n (starts file o))
 
-abbrev invariant-loop : tie.invariant-loop
+abbrev invariant-loop : tie.invariant-loop-o
 invariant-loop file n rows₀ constants₀ at₀ o₀ rows constants at o = RecordsFit file n (starts file o) × Left (width_of n) (from file n 0) rows₀ constants₀ (from file n o) rows constants at
 
-abbrev decreases-loop : tie.decreases-loop
+abbrev decreases-loop : tie.decreases-loop-o
 decreases-loop file n rows₀ constants₀ at₀ o₀ rows constants at o = length file - o
 
-loop-holds : tie.Need-loop-init invariant-loop decreases-loop
+loop-holds : tie.Need-loop-o-init invariant-loop decreases-loop
 loop-holds c =
-    let start = c.before.before.before in
+    let start = c in
     let a = start.args in
     (start.requires.0, left_start (width_of a.n) (from a.file.now a.n 0) a.rows.now a.constants.now)
 
 -- the rows of this record, and those of the next ones
-left_here : (c : tie.In-loop invariant-loop decreases-loop)
-    → let at = c.before in
-    let a = at.before.before.before.before.args in
+left_here : (c : tie.In-loop-o invariant-loop decreases-loop)
+    → let at = c in
+    let a = at.args in
     Left (width_of a.n) (from a.file.now a.n 0) a.rows.now a.constants.now
-    (all_rows a.n (parts_at a.file.now a.n at.loop.o) ++ from a.file.now a.n (next_at a.file.now at.loop.o)) at.loop.rows at.loop.constants at.loop.at
+    (all_rows a.n (parts_at a.file.now a.n at.loop-o.o) ++ from a.file.now a.n (next_at a.file.now at.loop-o.o)) at.loop-o.rows at.loop-o.constants at.loop-o.at
 left_here c =
-    let at = c.before in
-    let a = at.before.before.before.before.args in
-    subst (λ (rs : List Row). Left (width_of a.n) (from a.file.now a.n 0) a.rows.now a.constants.now rs at.loop.rows at.loop.constants at.loop.at)
-    (from_more a.file.now a.n at.loop.o c.loop-test.true) at.loop.invariant.1
+    let at = c in
+    let a = at.args in
+    subst (λ (rs : List Row). Left (width_of a.n) (from a.file.now a.n 0) a.rows.now a.constants.now rs at.loop-o.rows at.loop-o.constants at.loop-o.at)
+    (from_more a.file.now a.n at.loop-o.o c.loop-o-test.true) at.loop-o.invariant.1
 
-load-record-requires : tie.Need-load-record-requires invariant-loop decreases-loop
+load-record-requires : tie.Need-load_record-at-requires invariant-loop decreases-loop
 load-record-requires c κs =
-    let turn = c.before.before in
-    let at = turn.before in
-    let start = at.before.before.before.before in
+    let turn = c in
+    let at = turn in
+    let start = at in
     let a = start.args in
-    let so = left_here turn in (
-      (fit_more a.file.now a.n at.loop.o turn.loop-test.true at.loop.invariant.0).0,
-      left_room (width_of a.n) (from a.file.now a.n 0) a.rows.now a.constants.now at.loop.rows at.loop.constants at.loop.at _ _ so start.requires.1,
+    let so = left_here turn.before.before in (
+      (fit_more a.file.now a.n at.loop-o.o turn.loop-o-test.true at.loop-o.invariant.0).0,
+      left_room (width_of a.n) (from a.file.now a.n 0) a.rows.now a.constants.now at.loop-o.rows at.loop-o.constants at.loop-o.at _ _ so start.requires.1,
     )
 
-next-requires : tie.Need-next-requires invariant-loop decreases-loop
+next-requires : tie.Need-next-o-requires invariant-loop decreases-loop
 next-requires c κs = search rules
 
-loop-less : tie.Need-loop-smaller invariant-loop decreases-loop
+loop-less : tie.Need-loop-o-smaller invariant-loop decreases-loop
 loop-less c =
-    let turn = c.before.before.before.before.before.before.before.before in
-    let file = turn.before.before.before.before.before.args.file.now in
-    omega (arith, c.next.ensures, turn.loop-test.true, next_after file turn.before.loop.o turn.loop-test.true)
+    let turn = c in
+    let file = turn.args.file.now in
+    omega (arith, c.next-o.ensures, turn.loop-o-test.true, next_after file turn.loop-o.o turn.loop-o-test.true)
 
-loop-again : tie.Need-loop-preserved invariant-loop decreases-loop
+loop-again : tie.Need-loop-o-preserved invariant-loop decreases-loop
 loop-again c =
-    let call = c.before.before.before.before.before in
-    let turn = call.before.before.before in
-    let at = turn.before in
-    let a = at.before.before.before.before.args in
-    let next = next_at a.file.now at.loop.o in
-    let so = left_next (width_of a.n) (from a.file.now a.n 0) a.rows.now a.constants.now at.loop.rows at.loop.constants at.loop.at _ (from a.file.now a.n next) (left_here turn)
-    call.load-record.new.1.1.1.0 call.load-record.new.1.1.1.1.0 call.load-record.result call.load-record.ensures in
-    subst (λ (o : ℕ). RecordsFit a.file.now a.n (starts a.file.now o) × Left (width_of a.n) (from a.file.now a.n 0) a.rows.now a.constants.now (from a.file.now a.n o) call.load-record.new.1.1.1.0 call.load-record.new.1.1.1.1.0 call.load-record.result)
-    (sym c.next.ensures) ((fit_more a.file.now a.n at.loop.o turn.loop-test.true at.loop.invariant.0).1, so)
+    let call = c in
+    let turn = call in
+    let at = turn in
+    let a = at.args in
+    let next = next_at a.file.now at.loop-o.o in
+    let so = left_next (width_of a.n) (from a.file.now a.n 0) a.rows.now a.constants.now at.loop-o.rows at.loop-o.constants at.loop-o.at _ (from a.file.now a.n next) (left_here turn.before.before.before.before.before.before.before.before)
+    call.load_record-at.new.rows call.load_record-at.new.constants call.load_record-at.result call.load_record-at.ensures in
+    subst (λ (o : ℕ). RecordsFit a.file.now a.n (starts a.file.now o) × Left (width_of a.n) (from a.file.now a.n 0) a.rows.now a.constants.now (from a.file.now a.n o) call.load_record-at.new.rows call.load_record-at.new.constants call.load_record-at.result)
+    (sym c.next-o.ensures) ((fit_more a.file.now a.n at.loop-o.o turn.loop-o-test.true at.loop-o.invariant.0).1, so)
 
-same_length : tie.Need-same-length invariant-loop decreases-loop
+same_length : tie.Need-shape_of-rows invariant-loop decreases-loop
 same_length c = search rules
 
-same-length-2 : tie.Need-same-length-2 invariant-loop decreases-loop
+same-length-2 : tie.Need-shape_of-constants invariant-loop decreases-loop
 same-length-2 c = search rules
 
 returns : tie.Need-returns invariant-loop decreases-loop
 returns c =
-    let at = c.before in
-    let a = at.before.before.before.before.args in
-    let none = from_end a.file.now a.n at.loop.o c.loop-test.false in
-    left_end (width_of a.n) (from a.file.now a.n 0) a.rows.now a.constants.now at.loop.rows at.loop.constants at.loop.at
-    (subst (λ (rs : List Row). Left (width_of a.n) (from a.file.now a.n 0) a.rows.now a.constants.now rs at.loop.rows at.loop.constants at.loop.at) none at.loop.invariant.1)
+    let at = c in
+    let a = at.args in
+    let none = from_end a.file.now a.n at.loop-o.o c.loop-o-test.false in
+    left_end (width_of a.n) (from a.file.now a.n 0) a.rows.now a.constants.now at.loop-o.rows at.loop-o.constants at.loop-o.at
+    (subst (λ (rs : List Row). Left (width_of a.n) (from a.file.now a.n 0) a.rows.now a.constants.now rs at.loop-o.rows at.loop-o.constants at.loop-o.at) none at.loop-o.invariant.1)
 
-pub load-records-spec : {M : Type 1} → statement M
-load-records-spec =
+pub load_records_spec : {M : Type 1} → statement M
+load_records_spec =
     tie.close
     (tie.spec
     invariant-loop

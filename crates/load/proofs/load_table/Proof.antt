@@ -16,47 +16,47 @@ use borrow.Author.Rules.{rules}
 use Rattle.load.proofs.load_table.Statement.{statement}
 use Rattle.load.proofs.load_table.Tie as tie
 
-byte-requires : tie.Need-byte-requires
+byte-requires : tie.Need-byte-k-requires
 byte-requires c κs = search rules
 
 -- the places lent are within the array, and `read_atoms` fills all of them
-lent : (c : tie.After-byte) → length (take {A = ℕ} c.byte.result (replicate 8 0)) ≡ c.byte.result
+lent : (c : tie.After-byte-k) → length (take {A = ℕ} c.byte-k.result (replicate 8 0)) ≡ c.byte-k.result
 lent c =
-    let few : c.byte.result ≤ 8 = omega (arith, c.byte.ensures.0, c.before.before.before.before.requires.0) in
-    length-take-le c.byte.result (replicate 8 0) few
+    let few : c.byte-k.result ≤ 8 = omega (arith, c.byte-k.ensures.0, c.requires.0) in
+    length-take-le c.byte-k.result (replicate 8 0) few
 
-filled : (c : tie.After-read-atoms) → length c.read-atoms.new.1.1.0 ≡ c.before.before.byte.result
-filled c = c.read-atoms.auto.1.1.0 ∙ lent c.before.before
+filled : (c : tie.After-read_atoms) → length c.read_atoms.new.atoms ≡ c.byte-k.result
+filled c = c.read_atoms.auto.atoms ∙ lent c.before.before
 
-named : (c : tie.After-read-atoms)
-    → let a = c.before.before.before.before.before.before.args in
-    c.read-atoms.new.1.1.0 ≡ table_atoms a.file.now a.o
+named : (c : tie.After-read_atoms)
+    → let a = c.args in
+    c.read_atoms.new.atoms ≡ table_atoms a.file.now a.o
 named c =
-    let byte = c.before.before in
-    let a = byte.before.before.before.before.args in
-    c.read-atoms.ensures ∙ ap (list_from (atom_at a.file.now a.o) 0) (lent byte ∙ byte.byte.ensures.0)
+    let byte = c in
+    let a = byte.args in
+    c.read_atoms.ensures ∙ ap (list_from (atom_at a.file.now a.o) 0) (lent byte.before.before ∙ byte.byte-k.ensures.0)
 
-array-borrow-prefix-atoms : tie.Need-array-borrow-prefix-atoms
+array-borrow-prefix-atoms : tie.Need-slice_bounds-atoms-end
 array-borrow-prefix-atoms c = search rules
 
-slice-aggregate-read-atoms : tie.Need-slice-aggregate-read-atoms
+slice-aggregate-read-atoms : tie.Need-slice_bounds-read_atoms-end
 slice-aggregate-read-atoms c = sym (lent c.before)
 
-read-atoms-requires : tie.Need-read-atoms-requires
+read-atoms-requires : tie.Need-read_atoms-requires
 read-atoms-requires c κs = search rules
 
-table-requires : tie.Need-table-requires
+table-requires : tie.Need-table-proposal-requires
 table-requires c κs = search rules
 
-array-share-prefix-atoms : tie.Need-array-share-prefix-atoms
+array-share-prefix-atoms : tie.Need-slice_bounds-atoms-end-2
 array-share-prefix-atoms c =
-    let call = c.before.before.before in
-    omega (arith, filled call, length-append call.read-atoms.new.1.1.0 (drop {A = ℕ} call.before.before.byte.result (replicate 8 0)))
+    let call = c in
+    omega (arith, filled call.before.before.before, length-append call.read_atoms.new.atoms (drop {A = ℕ} call.byte-k.result (replicate 8 0)))
 
-slice-aggregate-write : tie.Need-slice-aggregate-write
+slice-aggregate-write : tie.Need-slice_bounds-write-end
 slice-aggregate-write c =
-    let call = c.before.before.before.before in
-    sym (ap length (take_at call.read-atoms.new.1.1.0 _ _ (filled call)) ∙ filled call)
+    let call = c in
+    sym (ap length (take_at call.read_atoms.new.atoms _ _ (filled call.before.before.before.before)) ∙ filled call.before.before.before.before)
 
 width-requires : tie.Need-width-requires
 width-requires c κs = search rules
@@ -64,41 +64,41 @@ width-requires c κs = search rules
 write-requires : tie.Need-write-requires
 write-requires c κs = search rules
 
-add-result : tie.Need-overflow-add-result
+add-result : tie.Need-overflow_add-result
 add-result c =
-    let table = c.before.before.before.before.before.before.before.before.before.before.before in
-    let start = table.before.before.before.before.before.before.before.before in
+    let table = c in
+    let start = table in
     let a = start.args in
-    omega (arith, start.requires.2.constants, count_is a.file.now a.n a.o a.at a.rows.now a.constants.now start.requires.0 start.requires.1 start.requires.2 table.table.result.hull (ap (λ (p : Proposal). p.hull) table.table.ensures))
+    omega (arith, start.requires.2.constants, count_is a.file.now a.n a.o a.at a.rows.now a.constants.now start.requires.0 start.requires.1 start.requires.2 table.table-proposal.result.hull (ap (λ (p : Proposal). p.hull) table.table-proposal.ensures))
 
-same_length : tie.Need-same-length
+same_length : tie.Need-shape_of-rows
 same_length c = search rules
 
-same-length-2 : tie.Need-same-length-2
+same-length-2 : tie.Need-shape_of-constants
 same-length-2 c = search rules
 
 returns : tie.Need-returns
 returns c =
-    let write = c.before.before.before.before.before in
-    let width = write.before.before.before in
-    let table = width.before.before.before in
-    let read = table.before.before in
-    let start = read.before.before.before.before.before.before in
+    let write = c in
+    let width = write in
+    let table = width in
+    let read = table in
+    let start = read in
     let a = start.args in
     let ws = a.rows.now in
     let cs = a.constants.now in
-    let h = table.table.result.hull in
+    let h = table.table-proposal.result.hull in
     let es = take h.count h.equations in
-    let names : take read.before.before.byte.result _ ≡ table_atoms a.file.now a.o = take_at read.read-atoms.new.1.1.0 _ _ (filled read) ∙ named read in
+    let names : take read.byte-k.result _ ≡ table_atoms a.file.now a.o = take_at read.read_atoms.new.atoms _ _ (filled read.before.before.before.before.before.before.before.before.before.before.before.before.before) ∙ named read.before.before.before.before.before.before.before.before.before.before.before.before.before in
     let first : Source = record { 0 = a.at } in
-    table_loaded a.file.now a.n a.o a.at ws cs start.requires.0 start.requires.1 start.requires.2 h (ap (λ (p : Proposal). p.hull) table.table.ensures)
-    write.write.result write.write.new.1.1.1.0 write.write.new.1.1.1.1.0
+    table_loaded a.file.now a.n a.o a.at ws cs start.requires.0 start.requires.1 start.requires.2 h (ap (λ (p : Proposal). p.hull) table.table-proposal.ensures)
+    write.write.result write.write.new.rows write.write.new.constants
     (write.write.ensures.0 ∙ ap₂ (λ (w : ℕ) (l : List ℕ). writable w ws cs h l first) width.width.ensures names)
     (write.write.ensures.1.0 ∙ ap₂ (λ (w : ℕ) (l : List ℕ). cond write.write.result (written_words w ws es l first) ws) width.width.ensures names)
     write.write.ensures.1.1
 
-pub load-table-spec : {M : Type 1} → statement M
-load-table-spec =
+pub load_table_spec : {M : Type 1} → statement M
+load_table_spec =
     tie.close
     (tie.spec
     byte-requires

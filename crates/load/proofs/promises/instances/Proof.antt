@@ -21,5 +21,5 @@ returns : tie.Need-returns
 unfolding xor packed atoms_of mask_of unpack allowed_from allowed enter pivots_from hull_from hull_of words_of constants_of short_at word_at list_from starts_from starts length_fault kind_fault table_size_fault size_fault good_atoms rising_atoms count_fault atoms_fault row_fault decision_fault range_fault rising_fault exact_at rows_at fault_at seen_after check_from check_of set_named parts_at parts_from load_of
 returns c = (refl, refl, refl, refl, refl)
 
-pub instances-spec : {M : Type 1} → statement M
-instances-spec = tie.close (tie.spec returns)
+pub instances_spec : {M : Type 1} → statement M
+instances_spec = tie.close (tie.spec returns)

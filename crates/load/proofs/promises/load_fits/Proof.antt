@@ -6,5 +6,5 @@ use Rattle.load.proofs.promises.load_fits.Tie as tie
 returns : tie.Need-returns
 returns c = load_fits
 
-pub load-fits-spec : {M : Type 1} → statement M
-load-fits-spec = tie.close (tie.spec returns)
+pub load_fits_spec : {M : Type 1} → statement M
+load_fits_spec = tie.close (tie.spec returns)

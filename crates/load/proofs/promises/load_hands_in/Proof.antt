@@ -6,5 +6,5 @@ use Rattle.load.proofs.promises.load_hands_in.Tie as tie
 returns : tie.Need-returns
 returns c = load_hands_in
 
-pub load-hands-in-spec : {M : Type 1} → statement M
-load-hands-in-spec = tie.close (tie.spec returns)
+pub load_hands_in_spec : {M : Type 1} → statement M
+load_hands_in_spec = tie.close (tie.spec returns)

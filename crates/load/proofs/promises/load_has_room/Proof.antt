@@ -6,5 +6,5 @@ use Rattle.load.proofs.promises.load_has_room.Tie as tie
 returns : tie.Need-returns
 returns c = load_has_room
 
-pub load-has-room-spec : {M : Type 1} → statement M
-load-has-room-spec = tie.close (tie.spec returns)
+pub load_has_room_spec : {M : Type 1} → statement M
+load_has_room_spec = tie.close (tie.spec returns)

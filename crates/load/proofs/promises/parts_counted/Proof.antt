@@ -6,5 +6,5 @@ use Rattle.load.proofs.promises.parts_counted.Tie as tie
 returns : tie.Need-returns
 returns c = parts_counted
 
-pub parts-counted-spec : {M : Type 1} → statement M
-parts-counted-spec = tie.close (tie.spec returns)
+pub parts_counted_spec : {M : Type 1} → statement M
+parts_counted_spec = tie.close (tie.spec returns)

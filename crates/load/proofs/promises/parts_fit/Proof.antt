@@ -6,5 +6,5 @@ use Rattle.load.proofs.promises.parts_fit.Tie as tie
 returns : tie.Need-returns
 returns c = parts_fit
 
-pub parts-fit-spec : {M : Type 1} → statement M
-parts-fit-spec = tie.close (tie.spec returns)
+pub parts_fit_spec : {M : Type 1} → statement M
+parts_fit_spec = tie.close (tie.spec returns)
