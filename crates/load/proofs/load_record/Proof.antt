@@ -35,8 +35,8 @@ returns c =
     let call = then in
     let a = call.args in
     let is = sym call.short-kind.ensures.0 ∙ then.if-kind-eq2.true in
-    subst (λ (rs : List Row). Loaded (width_of a.n) rs a.rows.now a.constants.now a.at done.Load-row.new.1.1.1.0 done.Load-row.new.1.1.1.1.0 done.Load-row.result)
-    (sym (here_row a.file.now a.n a.o is)) done.Load-row.ensures
+    subst (λ (rs : List Row). Loaded (width_of a.n) rs a.rows.now a.constants.now a.at done.load_row.new.rows done.load_row.new.constants done.load_row.result)
+    (sym (here_row a.file.now a.n a.o is)) done.load_row.ensures
 
 load-table-requires : tie.Need-load_table-requires
 load-table-requires c κs =

@@ -14,65 +14,65 @@ use borrow.Author.Rules.{rules}
 use Rattle.probe.proofs.eliminate.eliminate.Statement.{statement}
 use Rattle.probe.proofs.eliminate.eliminate.Tie as tie
 
-abbrev once : tie.After-xor-assign2 → tie.After-xor-assign
+abbrev once : tie.After-xor_assign-2 → tie.After-xor_assign
 once c = c.before.before.before.before
 
-abbrev begun : tie.After-xor-assign2 → tie.Start
+abbrev begun : tie.After-xor_assign-2 → tie.Start
 begun c = (once c).before.before.before.before.before.before
 
 abbrev region : tie.Start → Region
 region c = masked c.args.system.atoms c.args.held.now c.args.cut.now
 
 -- the atoms without the held ones, and without the cut ones too
-once-words : (c : tie.After-xor-assign) → length c.xor-assign.new.0 ≡ 8
-once-words c = c.xor-assign.auto.0 ∙ length-replicate {A = ℕ} 8 (2 ^ 64 - 1)
+once-words : (c : tie.After-xor_assign) → length c.xor_assign.new.left ≡ 8
+once-words c = c.xor_assign.auto.left ∙ length-replicate {A = ℕ} 8 (2 ^ 64 - 1)
 
-free-words : (c : tie.After-xor-assign2) → length c.xor-assign2.new.0 ≡ 8
-free-words c = c.xor-assign2.auto.0 ∙ once-words (once c)
+free-words : (c : tie.After-xor_assign-2) → length c.xor_assign-2.new.left ≡ 8
+free-words c = c.xor_assign-2.auto.left ∙ once-words (once c)
 
-free-are : (c : tie.After-xor-assign2)
+free-are : (c : tie.After-xor_assign-2)
     → let r = region (begun c) in
-    Masked r.atoms (decisions r) r.held c.xor-assign2.new.0
+    Masked r.atoms (decisions r) r.held c.xor_assign-2.new.left
 free-are c =
     let start = begun c in
     let r = region start in
     record {
       held_are = map_held r;
       open_are =
-          map_open r (fitting r start.pre.2) start.pre.3 start.pre.4 (once c).xor-assign.new.0 (once c).xor-assign.ensures.1
+          map_open r (fitting r start.requires.2) start.requires.3 start.requires.4 (once c).xor_assign.new.left (once c).xor_assign.ensures.1
           (once-words (once c))
-          ∙ ap (λ (l : List ℕ). atoms_of r.atoms (set_of l)) (sym c.xor-assign2.ensures.1);
+          ∙ ap (λ (l : List ℕ). atoms_of r.atoms (set_of l)) (sym c.xor_assign-2.ensures.1);
     }
 
-slice-aggregate-xor-assign : tie.Need-slice-aggregate-xor-assign
+slice-aggregate-xor-assign : tie.Need-slice_bounds-xor_assign-end
 slice-aggregate-xor-assign c = search rules
 
-xor-assign-requires : tie.Need-xor-assign-requires
+xor-assign-requires : tie.Need-xor_assign-requires
 xor-assign-requires c κs = search rules
 
-slice-aggregate-xor-assign-2 : tie.Need-slice-aggregate-xor-assign-2
+slice-aggregate-xor-assign-2 : tie.Need-slice_bounds-xor_assign-end-3
 slice-aggregate-xor-assign-2 c = search rules
 
-xor-assign-requires-2 : tie.Need-xor-assign-requires-2
+xor-assign-requires-2 : tie.Need-xor_assign-requires-2
 xor-assign-requires-2 c κs = search rules
 
-eliminate-open-requires : tie.Need-eliminate-open-requires
+eliminate-open-requires : tie.Need-eliminate_open-requires
 eliminate-open-requires c κs =
-    let second = c.before.before in
-    let start = begun second in (
-      start.pre.0,
-      (fitting (region start) start.pre.2).few,
-      start.pre.1,
-      record { held_wide = start.pre.3; free_wide = free-words second },
+    let second = c in
+    let start = begun second.before.before in (
+      start.requires.0,
+      (fitting (region start) start.requires.2).few,
+      start.requires.1,
+      record { held_wide = start.requires.3; free_wide = free-words second.before.before },
     )
 
 returns : tie.Need-returns
 returns c =
-    let second = c.before.before.before in
-    c.eliminate-open.ensures (decisions (region (begun second))) (free-are second)
+    let second = c in
+    c.eliminate_open.ensures (decisions (region (begun second.before.before.before))) (free-are second.before.before.before)
 
-pub eliminate-spec : {M : Type 1} → statement M
-eliminate-spec =
+pub eliminate_spec : {M : Type 1} → statement M
+eliminate_spec =
     tie.close
     (tie.spec
     slice-aggregate-xor-assign

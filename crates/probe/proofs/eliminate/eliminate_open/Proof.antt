@@ -36,87 +36,87 @@ small start k atoms word =
     let one : width_of start.args.n ≤ 1 = omega (arith, atoms, word) in
     ready start k k (omega (arith, mul-le-mul few one)) few
 
-slice-aggregate-eliminate-rows : tie.Need-slice-aggregate-eliminate-rows
+slice-aggregate-eliminate-rows : tie.Need-slice_bounds-eliminate_rows-end
 slice-aggregate-eliminate-rows c = search rules
 
-slice-aggregate-eliminate-rows-2 : tie.Need-slice-aggregate-eliminate-rows-2
+slice-aggregate-eliminate-rows-2 : tie.Need-slice_bounds-eliminate_rows-end-then-n-le8
 slice-aggregate-eliminate-rows-2 c = search rules
 
-slice-aggregate-eliminate-rows-3 : tie.Need-slice-aggregate-eliminate-rows-3
+slice-aggregate-eliminate-rows-3 : tie.Need-slice_bounds-eliminate_rows-end-then-n-le8-2
 slice-aggregate-eliminate-rows-3 c = search rules
 
-eliminate-rows-requires : tie.Need-eliminate-rows-requires
+eliminate-rows-requires : tie.Need-eliminate_rows-requires
 eliminate-rows-requires c κs =
-    let under = c.before.before.before in
-    small under.before.before.before.before 8 under.if1.true (omega arith)
+    let under = c in
+    small under.before.before.before.before.before.before.before 8 under.if-n-le8.true (omega arith)
 
-returns : tie.Need-returns
-returns c = c.before.before.before.eliminate-rows.ensures
+returns : tie.Need-returns-then-n-le8
+returns c = c.eliminate_rows.ensures
 
-slice-aggregate-eliminate-rows-4 : tie.Need-slice-aggregate-eliminate-rows-4
+slice-aggregate-eliminate-rows-4 : tie.Need-slice_bounds-eliminate_rows-end-then-n-le64
 slice-aggregate-eliminate-rows-4 c = search rules
 
-slice-aggregate-eliminate-rows-5 : tie.Need-slice-aggregate-eliminate-rows-5
+slice-aggregate-eliminate-rows-5 : tie.Need-slice_bounds-eliminate_rows-end-then-n-le64-2
 slice-aggregate-eliminate-rows-5 c = search rules
 
-slice-aggregate-eliminate-rows-6 : tie.Need-slice-aggregate-eliminate-rows-6
+slice-aggregate-eliminate-rows-6 : tie.Need-slice_bounds-eliminate_rows-end-then-n-le64-3
 slice-aggregate-eliminate-rows-6 c = search rules
 
-eliminate-rows-requires-2 : tie.Need-eliminate-rows-requires-2
+eliminate-rows-requires-2 : tie.Need-eliminate_rows-requires-then-n-le64
 eliminate-rows-requires-2 c κs =
-    let under = c.before.before.before in
-    small under.before.before.before.before.before 64 under.if2.true (omega arith)
+    let under = c in
+    small under.before.before.before.before.before.before.before.before 64 under.if-n-le64.true (omega arith)
 
-returns-2 : tie.Need-returns-2
-returns-2 c = c.before.before.before.eliminate-rows2.ensures
+returns-2 : tie.Need-returns-then-n-le64
+returns-2 c = c.eliminate_rows-then-n-le64.ensures
 
 width-requires : tie.Need-width-requires
 width-requires c κs = search rules
 
-mul-if3 : tie.Need-overflow-mul-if3
+mul-if3 : tie.Need-overflow_mul-rank
 mul-if3 c =
-    let start = c.before.before.before.before.before.before in
+    let start = c in
     let eight : c.width.result ≤ 8 = omega (arith, c.width.ensures, width_few start.args.n start.requires.1) in
     omega (arith, mul-le-mul start.requires.0.ranked eight)
 
-slice-aggregate-eliminate-rows-7 : tie.Need-slice-aggregate-eliminate-rows-7
+slice-aggregate-eliminate-rows-7 : tie.Need-slice_bounds-eliminate_rows-end-then-rank-width-le512
 slice-aggregate-eliminate-rows-7 c = search rules
 
-slice-aggregate-eliminate-rows-8 : tie.Need-slice-aggregate-eliminate-rows-8
+slice-aggregate-eliminate-rows-8 : tie.Need-slice_bounds-eliminate_rows-end-then-rank-width-le512-2
 slice-aggregate-eliminate-rows-8 c = search rules
 
-slice-aggregate-eliminate-rows-9 : tie.Need-slice-aggregate-eliminate-rows-9
+slice-aggregate-eliminate-rows-9 : tie.Need-slice_bounds-eliminate_rows-end-then-rank-width-le512-3
 slice-aggregate-eliminate-rows-9 c = search rules
 
-eliminate-rows-requires-3 : tie.Need-eliminate-rows-requires-3
+eliminate-rows-requires-3 : tie.Need-eliminate_rows-requires-then-rank-width-le512
 eliminate-rows-requires-3 c κs =
-    let under = c.before.before.before in
-    let width = under.before in
-    let start = width.before.before.before.before.before.before in
-    ready start 512 512 (subst (λ (w : ℕ). start.args.rank * w ≤ 512) width.width.ensures under.if3.true) start.requires.0.ranked
+    let under = c in
+    let width = under in
+    let start = width in
+    ready start.before.before.before.before.before.before.before.before.before.before 512 512 (subst (λ (w : ℕ). start.args.rank * w ≤ 512) width.width.ensures under.if-rank-width-le512.true) start.requires.0.ranked
 
-returns-3 : tie.Need-returns-3
-returns-3 c = c.before.before.before.eliminate-rows3.ensures
+returns-3 : tie.Need-returns-then-rank-width-le512
+returns-3 c = c.eliminate_rows-then-rank-width-le512.ensures
 
-slice-aggregate-eliminate-rows-10 : tie.Need-slice-aggregate-eliminate-rows-10
+slice-aggregate-eliminate-rows-10 : tie.Need-slice_bounds-eliminate_rows-end-2
 slice-aggregate-eliminate-rows-10 c = search rules
 
-slice-aggregate-eliminate-rows-11 : tie.Need-slice-aggregate-eliminate-rows-11
+slice-aggregate-eliminate-rows-11 : tie.Need-slice_bounds-eliminate_rows-end-3
 slice-aggregate-eliminate-rows-11 c = search rules
 
-slice-aggregate-eliminate-rows-12 : tie.Need-slice-aggregate-eliminate-rows-12
+slice-aggregate-eliminate-rows-12 : tie.Need-slice_bounds-eliminate_rows-end-4
 slice-aggregate-eliminate-rows-12 c = search rules
 
-eliminate-rows-requires-4 : tie.Need-eliminate-rows-requires-4
+eliminate-rows-requires-4 : tie.Need-eliminate_rows-requires-2
 eliminate-rows-requires-4 c κs =
-    let start = c.before.before.before.before.before.before.before.before.before.before in
-    ready start 4096 512 (mul-le-mul start.requires.0.ranked (width_few start.args.n start.requires.1)) start.requires.0.ranked
+    let start = c in
+    ready start.before.before.before.before.before.before.before.before.before.before 4096 512 (mul-le-mul start.requires.0.ranked (width_few start.args.n start.requires.1)) start.requires.0.ranked
 
-returns-4 : tie.Need-returns-4
-returns-4 c = c.before.before.before.eliminate-rows4.ensures
+returns-4 : tie.Need-returns
+returns-4 c = c.eliminate_rows-2.ensures
 
-pub eliminate-open-spec : {M : Type 1} → statement M
-eliminate-open-spec =
+pub eliminate_open_spec : {M : Type 1} → statement M
+eliminate_open_spec =
     tie.close
     (tie.spec
     slice-aggregate-eliminate-rows

@@ -6,38 +6,38 @@ use borrow.Author.Rules.{rules}
 use Rattle.probe.proofs.eliminate.eliminate_rows.Statement.{statement}
 use Rattle.probe.proofs.eliminate.eliminate_rows.Tie as tie
 
-substitute-rows-requires : tie.Need-substitute-rows-requires
+substitute-rows-requires : tie.Need-substitute_rows-requires
 substitute-rows-requires c κs = search rules
 
-eliminate-requires : tie.Need-eliminate-requires
+eliminate-requires : tie.Need-eliminate-done-requires
 eliminate-requires c κs = search rules
 
-same_length : tie.Need-same-length
+same_length : tie.Need-shape_of-left
 same_length c = search rules
 
-same-length-2 : tie.Need-same-length-2
+same-length-2 : tie.Need-shape_of-left_constants
 same-length-2 c = search rules
 
-same-length-3 : tie.Need-same-length-3
+same-length-3 : tie.Need-shape_of-pivots
 same-length-3 c = search rules
 
 returns : tie.Need-returns
 returns c =
-    let done = c.before.before.before.before.before.before.before in
-    let wrote = done.before.before.before.before.before.before.before.before in
-    let start = wrote.before.before.before.before.before.before.before.before.before in
+    let done = c in
+    let wrote = done in
+    let start = wrote in
     let a = start.args in
-    let left = wrote.substitute-rows.new in
-    let last = done.eliminate.new.1.1 in
-    let room : Room a.n a.rank left.0 left.1.0 = record {
-      words = omega (arith, start.requires.2.words, wrote.substitute-rows.auto.0);
-      constants = omega (arith, start.requires.2.constants, wrote.substitute-rows.auto.1.0);
+    let left = wrote.substitute_rows.new in
+    let last = done.eliminate-done.new in
+    let room : Room a.n a.rank left.left left.left_constants = record {
+      words = omega (arith, start.requires.2.words, wrote.substitute_rows.auto.left);
+      constants = omega (arith, start.requires.2.constants, wrote.substitute_rows.auto.left_constants);
     } in
-    answered a.n a.rank a.held.now a.free.now a.rows.now a.constants.now a.basis.now left.0 left.1.0 a.pivots.now start.requires.1 start.requires.0
-    room start.requires.3 wrote.substitute-rows.ensures done.eliminate.result last.0 last.1.0 last.1.1.0 done.eliminate.ensures
+    answered a.n a.rank a.held.now a.free.now a.rows.now a.constants.now a.basis.now left.left left.left_constants a.pivots.now start.requires.1 start.requires.0
+    room start.requires.3 wrote.substitute_rows.ensures done.eliminate-done.result last.rows last.constants last.basis done.eliminate-done.ensures
 
-pub eliminate-rows-spec : {M : Type 1} → statement M
-eliminate-rows-spec =
+pub eliminate_rows_spec : {M : Type 1} → statement M
+eliminate_rows_spec =
     tie.close
     (tie.spec
     substitute-rows-requires

@@ -7,10 +7,10 @@ use borrow.Author.Rules.{rules}
 use Rattle.probe.proofs.eliminate.open_words.Statement.{statement}
 use Rattle.probe.proofs.eliminate.open_words.Tie as tie
 
-abbrev invariant-loop : tie.invariant-loop
+abbrev invariant-loop : tie.invariant-loop-i
 invariant-loop left₀ words held free sum₀ i₀ left sum i = Opening words held free left₀ left sum i
 
-abbrev decreases-loop : tie.decreases-loop
+abbrev decreases-loop : tie.decreases-loop-i
 decreases-loop left₀ words held free sum₀ i₀ left sum i = length words - i
 
 few-free : (c : tie.Start invariant-loop decreases-loop) → length c.args.words.now ≤ length c.args.free.now
@@ -19,70 +19,70 @@ few-free c = omega (arith, c.requires.0, c.requires.2.free_wide)
 few-held : (c : tie.Start invariant-loop decreases-loop) → length c.args.words.now ≤ length c.args.held.now
 few-held c = omega (arith, c.requires.0, c.requires.2.held_wide)
 
-loop-holds : tie.Need-loop-init invariant-loop decreases-loop
+loop-holds : tie.Need-loop-i-init invariant-loop decreases-loop
 loop-holds c = let a = c.args in opening_start a.words.now a.held.now a.free.now a.left.now c.requires.1 (few-free c) (few-held c)
 
-mul_left : tie.Need-overflow-mul-left invariant-loop decreases-loop
+mul_left : tie.Need-offset_bounds-words-i invariant-loop decreases-loop
 mul_left c = search rules
 
-shared-slice-read-left : tie.Need-shared-slice-read-left invariant-loop decreases-loop
+shared-slice-read-left : tie.Need-bounds-words-i invariant-loop decreases-loop
 shared-slice-read-left c = search rules
 
-mul-left-2 : tie.Need-overflow-mul-left-2 invariant-loop decreases-loop
+mul-left-2 : tie.Need-offset_bounds-free-i invariant-loop decreases-loop
 mul-left-2 c = search rules
 
-element-copy-out-left : tie.Need-element-copy-out-left invariant-loop decreases-loop
+element-copy-out-left : tie.Need-bounds-free-i invariant-loop decreases-loop
 element-copy-out-left c = search rules
 
-mul-left-3 : tie.Need-overflow-mul-left-3 invariant-loop decreases-loop
+mul-left-3 : tie.Need-offset_bounds-left-i invariant-loop decreases-loop
 mul-left-3 c = search rules
 
-slice-write-left : tie.Need-slice-write-left invariant-loop decreases-loop
+slice-write-left : tie.Need-bounds-left-i invariant-loop decreases-loop
 slice-write-left c = search rules
 
-mul-sum : tie.Need-overflow-mul-sum invariant-loop decreases-loop
+mul-sum : tie.Need-offset_bounds-words-i-in-loop-i invariant-loop decreases-loop
 mul-sum c = search rules
 
-shared-slice-read-sum : tie.Need-shared-slice-read-sum invariant-loop decreases-loop
+shared-slice-read-sum : tie.Need-bounds-words-i-in-loop-i invariant-loop decreases-loop
 shared-slice-read-sum c = search rules
 
-mul-sum-2 : tie.Need-overflow-mul-sum-2 invariant-loop decreases-loop
+mul-sum-2 : tie.Need-offset_bounds-held-i invariant-loop decreases-loop
 mul-sum-2 c = search rules
 
-element-copy-out-sum : tie.Need-element-copy-out-sum invariant-loop decreases-loop
+element-copy-out-sum : tie.Need-bounds-held-i invariant-loop decreases-loop
 element-copy-out-sum c = search rules
 
-add-i : tie.Need-overflow-add-i invariant-loop decreases-loop
+add-i : tie.Need-overflow_add-i invariant-loop decreases-loop
 add-i c = search rules
 
-loop-less : tie.Need-loop-smaller invariant-loop decreases-loop
+loop-less : tie.Need-loop-i-smaller invariant-loop decreases-loop
 loop-less c = search rules
 
-loop-again : tie.Need-loop-preserved invariant-loop decreases-loop
+loop-again : tie.Need-loop-i-preserved invariant-loop decreases-loop
 loop-again c =
-    let turn = c.before.before.before.before in
-    let at = turn.before in
-    let start = at.before in
+    let turn = c in
+    let at = turn in
+    let start = at in
     let a = start.args in
-    opening_next a.words.now a.held.now a.free.now a.left.now start.requires.1 (few-free start) (few-held start) at.loop.left at.loop.sum at.loop.i
-    at.loop.invariant turn.loop-test.true (c.before.shared-slice-known2.given at.loop.i).fits
+    opening_next a.words.now a.held.now a.free.now a.left.now start.requires.1 (few-free start.before.before.before.before.before.before.before.before) (few-held start.before.before.before.before.before.before.before.before) at.loop-i.left at.loop-i.sum at.loop-i.i
+    at.loop-i.invariant turn.loop-i-test.true (c.shared_slice_known-in-loop-i-1.given at.loop-i.i).fits
 
-cast-result : tie.Need-overflow-cast-result invariant-loop decreases-loop
+cast-result : tie.Need-overflow_cast-result invariant-loop decreases-loop
 cast-result c = search rules
 
-same_length : tie.Need-same-length invariant-loop decreases-loop
+same_length : tie.Need-shape_of-left invariant-loop decreases-loop
 same_length c = search rules
 
 returns : tie.Need-returns invariant-loop decreases-loop
 returns c =
-    let at = c.before in
-    let start = at.before in
+    let at = c in
+    let start = at in
     let a = start.args in
-    opening_end a.words.now a.held.now a.free.now a.left.now start.requires.1 (few-free start) (few-held start) at.loop.left at.loop.sum at.loop.i
-    at.loop.invariant (omega arith)
+    opening_end a.words.now a.held.now a.free.now a.left.now start.requires.1 (few-free start.before.before) (few-held start.before.before) at.loop-i.left at.loop-i.sum at.loop-i.i
+    at.loop-i.invariant (omega arith)
 
-pub open-words-spec : {M : Type 1} → statement M
-open-words-spec =
+pub open_words_spec : {M : Type 1} → statement M
+open_words_spec =
     tie.close
     (tie.spec
     invariant-loop

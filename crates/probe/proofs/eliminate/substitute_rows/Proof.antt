@@ -13,82 +13,82 @@ use borrow.Author.Rules.{rules}
 use Rattle.probe.proofs.eliminate.substitute_rows.Statement.{statement}
 use Rattle.probe.proofs.eliminate.substitute_rows.Tie as tie
 
-abbrev invariant-loop : tie.invariant-loop
+abbrev invariant-loop : tie.invariant-loop-j
 invariant-loop left₀ left-constants₀ n rank rows constants basis held free width j₀ left left_constants j =
     (j ≤ rank) × (length left ≡ length left₀) × (length left_constants ≡ length left-constants₀) × Opened n held free rows constants basis left left_constants j
 
-abbrev decreases-loop : tie.decreases-loop
+abbrev decreases-loop : tie.decreases-loop-j
 decreases-loop left₀ left-constants₀ n rank rows constants basis held free width j₀ left left_constants j =
     rank - j
 
-width-requires : tie.Need-width-requires invariant-loop decreases-loop
+width-requires : tie.Need-width-width-requires invariant-loop decreases-loop
 width-requires c κs = search rules
 
-loop-holds : tie.Need-loop-init invariant-loop decreases-loop
+loop-holds : tie.Need-loop-j-init invariant-loop decreases-loop
 loop-holds c =
-    let a = c.before.before.before.before.before.before.args in
+    let a = c.args in
     (omega arith, refl, refl, opened_start a.n a.held.now a.free.now a.rows.now a.constants.now a.basis.now a.left.now a.left_constants.now)
 
-abbrev begun : tie.In-loop invariant-loop decreases-loop → tie.Start invariant-loop decreases-loop
+abbrev begun : tie.In-loop-j invariant-loop decreases-loop → tie.Start invariant-loop decreases-loop
 begun c = c.before.before.before.before.before.before.before.before
 
-legible : (c : tie.In-loop invariant-loop decreases-loop) → let a = (begun c).args in Legible a.n a.rows.now a.constants.now (get_or a.basis.now c.before.loop.j 0)
-legible c = (begun c).requires.0.legible c.before.loop.j c.loop-test.true
+legible : (c : tie.In-loop-j invariant-loop decreases-loop) → let a = (begun c).args in Legible a.n a.rows.now a.constants.now (get_or a.basis.now c.loop-j.j 0)
+legible c = (begun c).requires.0.legible c.loop-j.j c.loop-j-test.true
 
-room : (c : tie.In-loop invariant-loop decreases-loop) → let w = width_of (begun c).args.n in c.before.loop.j * w + w ≤ length c.before.loop.left
+room : (c : tie.In-loop-j invariant-loop decreases-loop) → let w = width_of (begun c).args.n in c.loop-j.j * w + w ≤ length c.loop-j.left
 room c =
     let a = (begun c).args in
-    omega (arith, row_room c.before.loop.j a.rank (width_of a.n) c.loop-test.true, (begun c).requires.1.words, c.before.loop.invariant.1)
+    omega (arith, row_room c.loop-j.j a.rank (width_of a.n) c.loop-j-test.true, (begun c).requires.1.words, c.loop-j.invariant.1)
 
-place : (c : tie.In-loop invariant-loop decreases-loop) → c.before.loop.j < length c.before.loop.left_constants
-place c = omega (arith, c.loop-test.true, (begun c).requires.1.constants, c.before.loop.invariant.2)
+place : (c : tie.In-loop-j invariant-loop decreases-loop) → c.loop-j.j < length c.loop-j.left_constants
+place c = omega (arith, c.loop-j-test.true, (begun c).requires.1.constants, c.loop-j.invariant.2)
 
-substitute-at-requires : tie.Need-substitute-at-requires invariant-loop decreases-loop
+substitute-at-requires : tie.Need-substitute_at-requires invariant-loop decreases-loop
 substitute-at-requires c κs =
-    let turn = c.before.before in
-    let start = begun turn in
-    let row = legible turn in
-    let lies : Within (width_of start.args.n) turn.before.loop.left turn.before.loop.left_constants turn.before.loop.j start.args.rows.now
-    start.args.constants.now (get_or start.args.basis.now turn.before.loop.j 0) =
-    record { narrow = width_few start.args.n row.atoms; words = room turn; constant = place turn; words' = row.words; constant' = row.constants } in
-    (omega (arith, start.pre.0.entries), rw turn.before.before.width.ensures lies, start.pre.2)
+    let turn = c in
+    let start = begun turn.before.before in
+    let row = legible turn.before.before in
+    let lies : Within (width_of start.args.n) turn.loop-j.left turn.loop-j.left_constants turn.loop-j.j start.args.rows.now
+    start.args.constants.now (get_or start.args.basis.now turn.loop-j.j 0) =
+    record { narrow = width_few start.args.n row.atoms; words = room turn.before.before; constant = place turn.before.before; words' = row.words; constant' = row.constants } in
+    (omega (arith, start.requires.0.entries), rw turn.width-width.ensures lies, start.requires.2)
 
-add-j : tie.Need-overflow-add-j invariant-loop decreases-loop
+add-j : tie.Need-overflow_add-j invariant-loop decreases-loop
 add-j c = search rules
 
-loop-less : tie.Need-loop-smaller invariant-loop decreases-loop
+loop-less : tie.Need-loop-j-smaller invariant-loop decreases-loop
 loop-less c = search rules
 
-loop-again : tie.Need-loop-preserved invariant-loop decreases-loop
+loop-again : tie.Need-loop-j-preserved invariant-loop decreases-loop
 loop-again c =
-    let called = c.before.before.before.before in
-    let turn = called.before.before.before in
-    let at = turn.before in
-    let a = (begun turn).args in
-    let is = called.substitute-at.ensures in (
+    let called = c in
+    let turn = called in
+    let at = turn in
+    let a = (begun turn.before.before.before.before.before.before.before).args in
+    let is = called.substitute_at.ensures in (
       omega arith,
-      called.substitute-at.auto.0 ∙ at.loop.invariant.1,
-      called.substitute-at.auto.1.0 ∙ at.loop.invariant.2,
-      rw (is.0, is.1, at.before.width.ensures)
-          (opened_next a.n a.held.now a.free.now a.rows.now a.constants.now a.basis.now at.loop.left at.loop.left_constants at.loop.j (legible turn)
-          (begun turn).requires.2.free_wide (room turn) (place turn) at.loop.invariant.3),
+      called.substitute_at.auto.left ∙ at.loop-j.invariant.1,
+      called.substitute_at.auto.left_constants ∙ at.loop-j.invariant.2,
+      rw (is.0, is.1, at.width-width.ensures)
+          (opened_next a.n a.held.now a.free.now a.rows.now a.constants.now a.basis.now at.loop-j.left at.loop-j.left_constants at.loop-j.j (legible turn.before.before.before.before.before.before.before)
+          (begun turn.before.before.before.before.before.before.before).requires.2.free_wide (room turn.before.before.before.before.before.before.before) (place turn.before.before.before.before.before.before.before) at.loop-j.invariant.3),
     )
 
-same_length : tie.Need-same-length invariant-loop decreases-loop
+same_length : tie.Need-shape_of-left invariant-loop decreases-loop
 same_length c = search rules
 
-same-length-2 : tie.Need-same-length-2 invariant-loop decreases-loop
+same-length-2 : tie.Need-shape_of-left_constants invariant-loop decreases-loop
 same-length-2 c = search rules
 
 returns : tie.Need-returns invariant-loop decreases-loop
 returns c =
-    let at = c.before in
-    let a = at.before.before.before.before.before.before.before.args in
-    let all : at.loop.j ≡ a.rank = omega (arith, at.loop.invariant.0) in
-    subst (Opened a.n a.held.now a.free.now a.rows.now a.constants.now a.basis.now at.loop.left at.loop.left_constants) all at.loop.invariant.3
+    let at = c in
+    let a = at.args in
+    let all : at.loop-j.j ≡ a.rank = omega (arith, at.loop-j.invariant.0) in
+    subst (Opened a.n a.held.now a.free.now a.rows.now a.constants.now a.basis.now at.loop-j.left at.loop-j.left_constants) all at.loop-j.invariant.3
 
-pub substitute-rows-spec : {M : Type 1} → statement M
-substitute-rows-spec =
+pub substitute_rows_spec : {M : Type 1} → statement M
+substitute_rows_spec =
     tie.close
     (tie.spec
     invariant-loop

@@ -6,5 +6,5 @@ use Rattle.probe.proofs.promises.kept_few.Tie as tie
 returns : tie.Need-returns
 returns c = kept_few
 
-pub kept-few-spec : {M : Type 1} → statement M
-kept-few-spec = tie.close (tie.spec returns)
+pub kept_few_spec : {M : Type 1} → statement M
+kept_few_spec = tie.close (tie.spec returns)

@@ -6,5 +6,5 @@ use Rattle.probe.proofs.promises.kept_independent.Tie as tie
 returns : tie.Need-returns
 returns c = kept_independent
 
-pub kept-independent-spec : {M : Type 1} → statement M
-kept-independent-spec = tie.close (tie.spec returns)
+pub kept_independent_spec : {M : Type 1} → statement M
+kept_independent_spec = tie.close (tie.spec returns)

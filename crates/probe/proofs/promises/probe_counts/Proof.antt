@@ -6,5 +6,5 @@ use Rattle.probe.proofs.promises.probe_counts.Tie as tie
 returns : tie.Need-returns
 returns c = probe_counts
 
-pub probe-counts-spec : {M : Type 1} → statement M
-probe-counts-spec = tie.close (tie.spec returns)
+pub probe_counts_spec : {M : Type 1} → statement M
+probe_counts_spec = tie.close (tie.spec returns)
