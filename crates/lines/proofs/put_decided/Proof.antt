@@ -4,54 +4,54 @@ use borrow.Author.Rules.{rules}
 use Rattle.lines.proofs.put_decided.Statement.{statement}
 use Rattle.lines.proofs.put_decided.Tie as tie
 
-short-requires : tie.Need-short-requires
+short-requires : tie.Need-short-atom-requires
 short-requires c κs = search rules
 
 byte-requires : tie.Need-byte-requires
 byte-requires c κs = search rules
 
-hold-requires : tie.Need-hold-requires
+hold-requires : tie.Need-hold-held-requires
 hold-requires c κs = search rules
 
-put-decision-requires : tie.Need-put-decision-requires
+put-decision-requires : tie.Need-put_decision-place-requires
 put-decision-requires c κs = search rules
 
-same_length : tie.Need-same-length
+same_length : tie.Need-shape_of-out-then-byte-eq1
 same_length c = search rules
 
-returns : tie.Need-returns
+returns : tie.Need-returns-then-byte-eq1
 returns c =
-    let call = c.before.before in
-    let made = call.before.before.before in
-    let test = made.before in
-    let byte = test.before in
-    let short = byte.before in
-    let a = short.before.before.before.args in
-    decided_hold a.file.now a.o a.region a.known short.short.ensures.0 byte.byte.ensures.0 test.if1.true made.hold.ensures
-    call.put-decision.ensures
+    let call = c in
+    let made = call in
+    let test = made in
+    let byte = test in
+    let short = byte in
+    let a = short.args in
+    decided_hold a.file.now a.o a.region a.known short.short-atom.ensures.0 byte.byte.ensures.0 test.if-byte-eq1.true made.hold-held.ensures
+    call.put_decision-place.ensures
 
-cut-requires : tie.Need-cut-requires
+cut-requires : tie.Need-cut-cut-requires
 cut-requires c κs = search rules
 
-put-decision-requires-2 : tie.Need-put-decision-requires-2
+put-decision-requires-2 : tie.Need-put_decision-place-requires-2
 put-decision-requires-2 c κs = search rules
 
-same-length-2 : tie.Need-same-length-2
+same-length-2 : tie.Need-shape_of-out
 same-length-2 c = search rules
 
-returns-2 : tie.Need-returns-2
+returns-2 : tie.Need-returns
 returns-2 c =
-    let call = c.before.before in
-    let made = call.before.before.before in
-    let test = made.before in
-    let byte = test.before in
-    let short = byte.before in
-    let a = short.before.before.before.args in
-    decided_cut a.file.now a.o a.region a.known short.short.ensures.0 byte.byte.ensures.0 test.if1.false made.cut.ensures
-    call.put-decision2.ensures
+    let call = c in
+    let made = call in
+    let test = made in
+    let byte = test in
+    let short = byte in
+    let a = short.args in
+    decided_cut a.file.now a.o a.region a.known short.short-atom.ensures.0 byte.byte.ensures.0 test.if-byte-eq1.false made.cut-cut.ensures
+    call.put_decision-place-2.ensures
 
-pub put-decided-spec : {M : Type 1} → statement M
-put-decided-spec =
+pub put_decided_spec : {M : Type 1} → statement M
+put_decided_spec =
     tie.close
     (tie.spec
     short-requires

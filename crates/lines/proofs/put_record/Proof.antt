@@ -6,70 +6,70 @@ use borrow.Author.Rules.{rules}
 use Rattle.lines.proofs.put_record.Statement.{statement}
 use Rattle.lines.proofs.put_record.Tie as tie
 
-short-requires : tie.Need-short-requires
+short-requires : tie.Need-short-kind-requires
 short-requires c κs = search rules
 
-put-decided-requires : tie.Need-put-decided-requires
+put-decided-requires : tie.Need-put_decided-requires
 put-decided-requires c κs = search rules
 
-same_length : tie.Need-same-length
+same_length : tie.Need-shape_of-out-then-kind-eq4
 same_length c = search rules
 
-returns : tie.Need-returns
+returns : tie.Need-returns-then-kind-eq4
 returns c =
-    let call = c.before.before in
-    let test = call.before.before in
-    let short = test.before in
-    let a = short.before.before.before.before.before.before.before.args in
+    let call = c in
+    let test = call in
+    let short = test in
+    let a = short.args in
     let f = filled a.rows.now a.constants.now a.basis.now a.index.now in
-    turn_decision a.file.now a.system f (state_with a.region a.known) a.o short.short.ensures.0 test.if1.true call.put-decided.ensures
+    turn_decision a.file.now a.system f (state_with a.region a.known) a.o short.short-kind.ensures.0 test.if-kind-eq4.true call.put_decided.ensures
 
-put-inspected-requires : tie.Need-put-inspected-requires
+put-inspected-requires : tie.Need-put_inspected-requires
 put-inspected-requires c κs = search rules
 
-same-length-2 : tie.Need-same-length-2
+same-length-2 : tie.Need-shape_of-out-then-kind-eq5
 same-length-2 c = search rules
 
-returns-2 : tie.Need-returns-2
+returns-2 : tie.Need-returns-then-kind-eq5
 returns-2 c =
-    let call = c.before.before in
-    let test = call.before.before in
-    let short = test.before.before in
-    let a = short.before.before.before.before.before.before.before.args in
+    let call = c in
+    let test = call in
+    let short = test in
+    let a = short.args in
     let f = filled a.rows.now a.constants.now a.basis.now a.index.now in
-    turn_inspection a.file.now a.system f (state_with a.region a.known) a.o short.short.ensures.0 test.if2.true
-    call.put-inspected.ensures
+    turn_inspection a.file.now a.system f (state_with a.region a.known) a.o short.short-kind.ensures.0 test.if-kind-eq5.true
+    call.put_inspected.ensures
 
-probe-requires : tie.Need-probe-requires
+probe-requires : tie.Need-probe-probed-requires
 probe-requires c κs = search rules
 
-put-probe-requires : tie.Need-put-probe-requires
+put-probe-requires : tie.Need-put_probe-place-requires
 put-probe-requires c κs = search rules
 
-same-length-3 : tie.Need-same-length-3
+same-length-3 : tie.Need-shape_of-out-then-kind-eq6
 same-length-3 c = search rules
 
-returns-3 : tie.Need-returns-3
+returns-3 : tie.Need-returns-then-kind-eq6
 returns-3 c =
-    let call = c.before.before in
-    let probed = call.before.before in
-    let test = probed.before in
-    let short = test.before.before.before in
-    let a = short.before.before.before.before.before.before.before.args in
+    let call = c in
+    let probed = call in
+    let test = probed in
+    let short = test in
+    let a = short.args in
     let f = filled a.rows.now a.constants.now a.basis.now a.index.now in
-    turn_probe a.file.now a.system f (state_with a.region a.known) a.o short.short.ensures.0 test.if3.true probed.probe.ensures
-    call.put-probe.ensures
+    turn_probe a.file.now a.system f (state_with a.region a.known) a.o short.short-kind.ensures.0 test.if-kind-eq6.true probed.probe-probed.ensures
+    call.put_probe-place.ensures
 
-returns-4 : tie.Need-returns-4
+returns-4 : tie.Need-returns
 returns-4 c =
-    let short = c.before.before.before in
-    let a = short.before.before.before.before.before.before.before.args in
+    let short = c in
+    let a = short.args in
     let f = filled a.rows.now a.constants.now a.basis.now a.index.now in
-    turn_other a.file.now a.system f (state_with a.region a.known) a.o a.out.now a.at short.short.ensures.0
-    c.before.before.if1.false c.before.if2.false c.if3.false short.before.before.before.before.before.before.before.requires.1
+    turn_other a.file.now a.system f (state_with a.region a.known) a.o a.out.now a.at short.short-kind.ensures.0
+    c.if-kind-eq4.false c.if-kind-eq5.false c.if-kind-eq6.false short.requires.1
 
-pub put-record-spec : {M : Type 1} → statement M
-put-record-spec =
+pub put_record_spec : {M : Type 1} → statement M
+put_record_spec =
     tie.close
     (tie.spec
     short-requires

@@ -8,63 +8,39 @@ use borrow.Author.Rules.{rules}
 use Rattle.lines.proofs.print.put_probe.Statement.{statement}
 use Rattle.lines.proofs.print.put_probe.Tie as tie
 
-slice-aggregate-put-two : tie.Need-slice-aggregate-put-two
-slice-aggregate-put-two c = search rules
-
-slice-aggregate-put-two-2 : tie.Need-slice-aggregate-put-two-2
-slice-aggregate-put-two-2 c = search rules
-
-slice-aggregate-put-two-3 : tie.Need-slice-aggregate-put-two-3
-slice-aggregate-put-two-3 c = search rules
-
-put-two-requires : tie.Need-put-two-requires
+put-two-requires : tie.Need-put_two-requires
 put-two-requires c κs = search rules
 
-same_length : tie.Need-same-length
+same_length : tie.Need-shape_of-out-then-probed
 same_length c = search rules
 
-returns : tie.Need-returns
+returns : tie.Need-returns-then-probed
 returns c =
-    let call = c.before.before in
-    let test = call.before.before.before.before.before in
-    let q = test.before.before.args.probed in
-    wrote_is (ap (λ (b : Bool). two_of (probe_word b) q.undecided space q.kept newline) (sym test.if1.true)) call.put_two.ensures
+    let call = c in
+    let test = call in
+    let q = test.args.probed in
+    wrote_is (ap (λ (b : Bool). two_of (probe_word b) q.undecided space q.kept newline) (sym test.if-probed.true)) call.put_two.ensures
 
-slice-aggregate-put-two-4 : tie.Need-slice-aggregate-put-two-4
-slice-aggregate-put-two-4 c = search rules
-
-slice-aggregate-put-two-5 : tie.Need-slice-aggregate-put-two-5
-slice-aggregate-put-two-5 c = search rules
-
-slice-aggregate-put-two-6 : tie.Need-slice-aggregate-put-two-6
-slice-aggregate-put-two-6 c = search rules
-
-put-two-requires-2 : tie.Need-put-two-requires-2
+put-two-requires-2 : tie.Need-put_two-requires-2
 put-two-requires-2 c κs = search rules
 
-same-length-2 : tie.Need-same-length-2
+same-length-2 : tie.Need-shape_of-out
 same-length-2 c = search rules
 
-returns-2 : tie.Need-returns-2
+returns-2 : tie.Need-returns
 returns-2 c =
-    let call = c.before.before in
-    let test = call.before.before.before.before.before in
-    let q = test.before.before.args.probed in
-    wrote_is (ap (λ (b : Bool). two_of (probe_word b) q.undecided space q.kept newline) (sym test.if1.false)) call.put-two2.ensures
+    let call = c in
+    let test = call in
+    let q = test.args.probed in
+    wrote_is (ap (λ (b : Bool). two_of (probe_word b) q.undecided space q.kept newline) (sym test.if-probed.false)) call.put_two-2.ensures
 
-pub put-probe-spec : {M : Type 1} → statement M
-put-probe-spec =
+pub put_probe_spec : {M : Type 1} → statement M
+put_probe_spec =
     tie.close
     (tie.spec
-    slice-aggregate-put-two
-    slice-aggregate-put-two-2
-    slice-aggregate-put-two-3
     put-two-requires
     same_length
     returns
-    slice-aggregate-put-two-4
-    slice-aggregate-put-two-5
-    slice-aggregate-put-two-6
     put-two-requires-2
     same-length-2
     returns-2)

@@ -33,5 +33,5 @@ returns c = (
   (((refl, tt), refl, refl, (tt, (tt, ((λ e. let z : ⊥ = omega arith in absurd z), (tt, tt))))), refl, refl),
 )
 
-pub instances-spec : {M : Type 1} → statement M
-instances-spec = tie.close (tie.spec returns)
+pub instances_spec : {M : Type 1} → statement M
+instances_spec = tie.close (tie.spec returns)

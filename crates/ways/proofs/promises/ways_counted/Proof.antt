@@ -6,5 +6,5 @@ use Rattle.ways.proofs.promises.ways_counted.Tie as tie
 returns : tie.Need-returns
 returns c = ways_counted
 
-pub ways-counted-spec : {M : Type 1} → statement M
-ways-counted-spec = tie.close (tie.spec returns)
+pub ways_counted_spec : {M : Type 1} → statement M
+ways_counted_spec = tie.close (tie.spec returns)
