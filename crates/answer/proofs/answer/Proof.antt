@@ -13,27 +13,27 @@ use Rattle.answer.proofs.answer.Tie as tie
 room-requires : tie.Need-room-requires
 room-requires c κs = search rules
 
-returns : tie.Need-returns
+returns : tie.Need-returns-then-out-room
 unfolding answer_of
 returns c =
-    let room = c.before in
-    let a = room.before.before.before.args in
-    let less : length a.out.now < room_of (length a.file.now) = omega (arith, room.room.ensures, c.if1.true) in
+    let room = c in
+    let a = room.args in
+    let less : length a.out.now < room_of (length a.file.now) = omega (arith, room.room.ensures, c.if-out-room.true) in
     (rw (lt-ltb (length a.out.now) (room_of (length a.file.now)) less), (omega arith, refl))
 
-put-text-requires : tie.Need-put-text-requires
+put-text-requires : tie.Need-put_text-requires
 put-text-requires c κs = search rules
 
-same_length : tie.Need-same-length
+same_length : tie.Need-shape_of-out
 same_length c = search rules
 
-returns-2 : tie.Need-returns-2
+returns-2 : tie.Need-returns
 returns-2 c =
-    let call = c.before.before in
-    let test = call.before.before in
-    let a = test.before.before.before.before.args in
-    let enough : room_of (length a.file.now) ≤ length a.out.now = omega (arith, test.before.room.ensures, test.if1.false) in
-    (answered_whole a.file.now enough call.put-text.ensures, answered_within a.file.now enough call.put-text.ensures)
+    let call = c in
+    let test = call in
+    let a = test.args in
+    let enough : room_of (length a.file.now) ≤ length a.out.now = omega (arith, test.room.ensures, test.if-out-room.false) in
+    (answered_whole a.file.now enough call.put_text.ensures, answered_within a.file.now enough call.put_text.ensures)
 
-pub answer-spec : {M : Type 1} → statement M
-answer-spec = tie.close (tie.spec room-requires returns put-text-requires same_length returns-2)
+pub answer_spec : {M : Type 1} → statement M
+answer_spec = tie.close (tie.spec room-requires returns put-text-requires same_length returns-2)

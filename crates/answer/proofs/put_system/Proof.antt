@@ -10,101 +10,53 @@ use borrow.Author.Rules.{rules}
 use Rattle.answer.proofs.put_system.Statement.{statement}
 use Rattle.answer.proofs.put_system.Tie as tie
 
-slice-aggregate-put-two : tie.Need-slice-aggregate-put-two
-slice-aggregate-put-two c = search rules
-
-slice-aggregate-put-two-2 : tie.Need-slice-aggregate-put-two-2
-slice-aggregate-put-two-2 c = search rules
-
-slice-aggregate-put-two-3 : tie.Need-slice-aggregate-put-two-3
-slice-aggregate-put-two-3 c = search rules
-
-put-two-requires : tie.Need-put-two-requires
+put-two-requires : tie.Need-put_two-first-requires
 put-two-requires c κs = search rules
 
-slice-aggregate-put-two-4 : tie.Need-slice-aggregate-put-two-4
-slice-aggregate-put-two-4 c = search rules
-
-slice-aggregate-put-two-5 : tie.Need-slice-aggregate-put-two-5
-slice-aggregate-put-two-5 c = search rules
-
-slice-aggregate-put-two-6 : tie.Need-slice-aggregate-put-two-6
-slice-aggregate-put-two-6 c = search rules
-
-put-two-requires-2 : tie.Need-put-two-requires-2
+put-two-requires-2 : tie.Need-put_two-second-requires
 put-two-requires-2 c κs = search rules
 
-slice-aggregate-put-two-7 : tie.Need-slice-aggregate-put-two-7
-slice-aggregate-put-two-7 c = search rules
-
-slice-aggregate-put-two-8 : tie.Need-slice-aggregate-put-two-8
-slice-aggregate-put-two-8 c = search rules
-
-slice-aggregate-put-two-9 : tie.Need-slice-aggregate-put-two-9
-slice-aggregate-put-two-9 c = search rules
-
-put-two-requires-3 : tie.Need-put-two-requires-3
+put-two-requires-3 : tie.Need-put_two-requires
 put-two-requires-3 c κs = search rules
 
-same_length : tie.Need-same-length
+same_length : tie.Need-shape_of-out-then-system
 same_length c = search rules
 
-returns : tie.Need-returns
+returns : tie.Need-returns-then-system
 returns c =
-    let third = c.before.before in
-    let test = third.before.before.before.before.before in
-    let second = test.before.before.before in
-    let first = second.before.before.before.before.before.before.before in
-    let p = first.before.before.before.before.before.before.before.args.prepared in
-    wrote_both first.put_two.ensures (wrote_both second.put-two2.ensures
-    (wrote_is (ap (λ (t : Bool). two_of [] p.units space p.incidences (sound_word t)) (sym test.if1.true)) third.put-two3.ensures))
+    let third = c in
+    let test = third in
+    let second = test in
+    let first = second in
+    let p = first.args.prepared in
+    wrote_both first.put_two-first.ensures (wrote_both second.put_two-second.ensures
+    (wrote_is (ap (λ (t : Bool). two_of [] p.units space p.incidences (sound_word t)) (sym test.if-system.true)) third.put_two.ensures))
 
-slice-aggregate-put-two-10 : tie.Need-slice-aggregate-put-two-10
-slice-aggregate-put-two-10 c = search rules
-
-slice-aggregate-put-two-11 : tie.Need-slice-aggregate-put-two-11
-slice-aggregate-put-two-11 c = search rules
-
-slice-aggregate-put-two-12 : tie.Need-slice-aggregate-put-two-12
-slice-aggregate-put-two-12 c = search rules
-
-put-two-requires-4 : tie.Need-put-two-requires-4
+put-two-requires-4 : tie.Need-put_two-requires-2
 put-two-requires-4 c κs = search rules
 
-same-length-2 : tie.Need-same-length-2
+same-length-2 : tie.Need-shape_of-out
 same-length-2 c = search rules
 
-returns-2 : tie.Need-returns-2
+returns-2 : tie.Need-returns
 returns-2 c =
-    let third = c.before.before in
-    let test = third.before.before.before.before.before in
-    let second = test.before.before.before in
-    let first = second.before.before.before.before.before.before.before in
-    let p = first.before.before.before.before.before.before.before.args.prepared in
-    wrote_both first.put_two.ensures (wrote_both second.put-two2.ensures
-    (wrote_is (ap (λ (t : Bool). two_of [] p.units space p.incidences (sound_word t)) (sym test.if1.false)) third.put-two4.ensures))
+    let third = c in
+    let test = third in
+    let second = test in
+    let first = second in
+    let p = first.args.prepared in
+    wrote_both first.put_two-first.ensures (wrote_both second.put_two-second.ensures
+    (wrote_is (ap (λ (t : Bool). two_of [] p.units space p.incidences (sound_word t)) (sym test.if-system.false)) third.put_two-2.ensures))
 
-pub put-system-spec : {M : Type 1} → statement M
-put-system-spec =
+pub put_system_spec : {M : Type 1} → statement M
+put_system_spec =
     tie.close
     (tie.spec
-    slice-aggregate-put-two
-    slice-aggregate-put-two-2
-    slice-aggregate-put-two-3
     put-two-requires
-    slice-aggregate-put-two-4
-    slice-aggregate-put-two-5
-    slice-aggregate-put-two-6
     put-two-requires-2
-    slice-aggregate-put-two-7
-    slice-aggregate-put-two-8
-    slice-aggregate-put-two-9
     put-two-requires-3
     same_length
     returns
-    slice-aggregate-put-two-10
-    slice-aggregate-put-two-11
-    slice-aggregate-put-two-12
     put-two-requires-4
     same-length-2
     returns-2)

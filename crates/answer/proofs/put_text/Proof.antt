@@ -4,66 +4,54 @@ use borrow.Author.Rules.{rules}
 use Rattle.answer.proofs.put_text.Statement.{statement}
 use Rattle.answer.proofs.put_text.Tie as tie
 
-slice-aggregate-load : tie.Need-slice-aggregate-load
+slice-aggregate-load : tie.Need-slice_bounds-load-end
 slice-aggregate-load c = search rules
 
-slice-aggregate-load-2 : tie.Need-slice-aggregate-load-2
+slice-aggregate-load-2 : tie.Need-slice_bounds-load-end-2
 slice-aggregate-load-2 c = search rules
 
-load-requires : tie.Need-load-requires
+load-requires : tie.Need-load-checked-requires
 load-requires c κs = search rules
 
-slice-aggregate-put-two : tie.Need-slice-aggregate-put-two
-slice-aggregate-put-two c = search rules
-
-slice-aggregate-put-two-2 : tie.Need-slice-aggregate-put-two-2
-slice-aggregate-put-two-2 c = search rules
-
-slice-aggregate-put-two-3 : tie.Need-slice-aggregate-put-two-3
-slice-aggregate-put-two-3 c = search rules
-
-put-two-requires : tie.Need-put-two-requires
+put-two-requires : tie.Need-put_two-requires
 put-two-requires c κs = search rules
 
-same_length : tie.Need-same-length
+same_length : tie.Need-shape_of-out-then-checked-ne0
 same_length c = search rules
 
-returns : tie.Need-returns
+returns : tie.Need-returns-then-checked-ne0
 returns c =
-    let call = c.before.before in
-    let test = call.before.before.before.before.before in
-    let load = test.before.before.before.before in
-    refusal_written load.before.before.before.before.before.args.file.now load.load.ensures test.if1.true call.put_two.ensures
+    let call = c in
+    let test = call in
+    let load = test in
+    refusal_written load.args.file.now load.load-checked.ensures test.if-checked-ne0.true call.put_two.ensures
 
-slice-aggregate-put-answers : tie.Need-slice-aggregate-put-answers
+slice-aggregate-put-answers : tie.Need-slice_bounds-put_answers-end
 slice-aggregate-put-answers c = search rules
 
-slice-aggregate-put-answers-2 : tie.Need-slice-aggregate-put-answers-2
+slice-aggregate-put-answers-2 : tie.Need-slice_bounds-put_answers-end-2
 slice-aggregate-put-answers-2 c = search rules
 
-put-answers-requires : tie.Need-put-answers-requires
+put-answers-requires : tie.Need-put_answers-requires
 put-answers-requires c κs = search rules
 
-same-length-2 : tie.Need-same-length-2
+same-length-2 : tie.Need-shape_of-out
 same-length-2 c = search rules
 
-returns-2 : tie.Need-returns-2
+returns-2 : tie.Need-returns
 returns-2 c =
-    let call = c.before.before.before.before in
-    let test = call.before.before.before.before in
-    let load = test.before.before.before.before in
-    text_written load.before.before.before.before.before.args.file.now load.load.ensures test.if1.false call.put-answers.ensures
+    let call = c in
+    let test = call in
+    let load = test in
+    text_written load.args.file.now load.load-checked.ensures test.if-checked-ne0.false call.put_answers.ensures
 
-pub put-text-spec : {M : Type 1} → statement M
-put-text-spec =
+pub put_text_spec : {M : Type 1} → statement M
+put_text_spec =
     tie.close
     (tie.spec
     slice-aggregate-load
     slice-aggregate-load-2
     load-requires
-    slice-aggregate-put-two
-    slice-aggregate-put-two-2
-    slice-aggregate-put-two-3
     put-two-requires
     same_length
     returns

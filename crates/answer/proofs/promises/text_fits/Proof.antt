@@ -6,5 +6,5 @@ use Rattle.answer.proofs.promises.text_fits.Tie as tie
 returns : tie.Need-returns
 returns c = text_fits
 
-pub text-fits-spec : {M : Type 1} → statement M
-text-fits-spec = tie.close (tie.spec returns)
+pub text_fits_spec : {M : Type 1} → statement M
+text_fits_spec = tie.close (tie.spec returns)

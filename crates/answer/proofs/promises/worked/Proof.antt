@@ -39,5 +39,5 @@ returns : tie.Need-returns
 unfolding zip_with reverse xor packed row_at atoms_of mask_of unpack part_of allowed_from allowed enter pivots_from hull_from hull_of strays misnames forward eliminated rows_to words_of constants_of index_of incidences_of over_rank prepare_unfit prepare_of decisions_of region_of decide_unfit undecided_of hold_of cut_of marks listed touched_of reading_of consequences applied inspect_unfit inspect_of reduced_by kept_from probe_unfit probe_of short_at word_at list_from starts_from starts length_fault kind_fault table_size_fault size_fault good_atoms rising_atoms count_fault atoms_fault row_fault decision_fault range_fault rising_fault exact_at rows_at fault_at seen_after check_from check_of set_named parts_at parts_from load_of digits_from decimal_of calls_at line_at lines_from answers_of text_of
 returns c = refl
 
-pub worked-spec : {M : Type 1} → statement M
-worked-spec = tie.close (tie.spec returns)
+pub worked_spec : {M : Type 1} → statement M
+worked_spec = tie.close (tie.spec returns)
