@@ -8,11 +8,11 @@ use Rattle.ffi.proofs.worzubil_count.Tie as tie
 count-requires : tie.Need-count-requires
 count-requires c κs = search rules
 
-counted-answer-requires : tie.Need-counted-answer-requires
+counted-answer-requires : tie.Need-counted_answer-requires
 counted-answer-requires c κs = search rules
 
 returns : tie.Need-returns
-returns c = c.counted-answer.ensures ∙ ap counted_answer c.before.count.ensures
+returns c = c.counted_answer.ensures ∙ ap counted_answer c.count.ensures
 
-pub worzubil-count-spec : {M : Type 1} → statement M
-worzubil-count-spec = tie.close (tie.spec count-requires counted-answer-requires returns)
+pub worzubil_count_spec : {M : Type 1} → statement M
+worzubil_count_spec = tie.close (tie.spec count-requires counted-answer-requires returns)

@@ -8,11 +8,11 @@ use Rattle.ffi.proofs.worzubil_first.Tie as tie
 first-requires : tie.Need-first-requires
 first-requires c κs = search rules
 
-found-answer-requires : tie.Need-found-answer-requires
+found-answer-requires : tie.Need-found_answer-requires
 found-answer-requires c κs = search rules
 
 returns : tie.Need-returns
-returns c = c.found-answer.ensures ∙ ap found_answer c.before.first.ensures
+returns c = c.found_answer.ensures ∙ ap found_answer c.first.ensures
 
-pub worzubil-first-spec : {M : Type 1} → statement M
-worzubil-first-spec = tie.close (tie.spec first-requires found-answer-requires returns)
+pub worzubil_first_spec : {M : Type 1} → statement M
+worzubil_first_spec = tie.close (tie.spec first-requires found-answer-requires returns)

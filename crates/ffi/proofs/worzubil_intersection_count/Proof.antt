@@ -5,15 +5,15 @@ use Rattle.ffi.specs.Answers.{counted_answer}
 use Rattle.ffi.proofs.worzubil_intersection_count.Statement.{statement}
 use Rattle.ffi.proofs.worzubil_intersection_count.Tie as tie
 
-intersection-count-requires : tie.Need-intersection-count-requires
+intersection-count-requires : tie.Need-intersection_count-requires
 intersection-count-requires c κs = search rules
 
-counted-answer-requires : tie.Need-counted-answer-requires
+counted-answer-requires : tie.Need-counted_answer-requires
 counted-answer-requires c κs = search rules
 
 returns : tie.Need-returns
-returns c = c.counted-answer.ensures ∙ ap counted_answer c.before.intersection-count.ensures
+returns c = c.counted_answer.ensures ∙ ap counted_answer c.intersection_count.ensures
 
-pub worzubil-intersection-count-spec : {M : Type 1} → statement M
-worzubil-intersection-count-spec =
+pub worzubil_intersection_count_spec : {M : Type 1} → statement M
+worzubil_intersection_count_spec =
     tie.close (tie.spec intersection-count-requires counted-answer-requires returns)

@@ -5,15 +5,15 @@ use Rattle.ffi.specs.Answers.{verdict_answer}
 use Rattle.ffi.proofs.worzubil_intersection_parity.Statement.{statement}
 use Rattle.ffi.proofs.worzubil_intersection_parity.Tie as tie
 
-intersection-parity-requires : tie.Need-intersection-parity-requires
+intersection-parity-requires : tie.Need-intersection_parity-requires
 intersection-parity-requires c κs = search rules
 
-verdict-answer-requires : tie.Need-verdict-answer-requires
+verdict-answer-requires : tie.Need-verdict_answer-requires
 verdict-answer-requires c κs = search rules
 
 returns : tie.Need-returns
-returns c = c.verdict-answer.ensures ∙ ap verdict_answer c.before.intersection-parity.ensures
+returns c = c.verdict_answer.ensures ∙ ap verdict_answer c.intersection_parity.ensures
 
-pub worzubil-intersection-parity-spec : {M : Type 1} → statement M
-worzubil-intersection-parity-spec =
+pub worzubil_intersection_parity_spec : {M : Type 1} → statement M
+worzubil_intersection_parity_spec =
     tie.close (tie.spec intersection-parity-requires verdict-answer-requires returns)

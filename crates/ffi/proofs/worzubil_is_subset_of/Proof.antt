@@ -5,15 +5,15 @@ use Rattle.ffi.specs.Answers.{verdict_answer}
 use Rattle.ffi.proofs.worzubil_is_subset_of.Statement.{statement}
 use Rattle.ffi.proofs.worzubil_is_subset_of.Tie as tie
 
-is-subset-of-requires : tie.Need-is-subset-of-requires
+is-subset-of-requires : tie.Need-is_subset_of-requires
 is-subset-of-requires c κs = search rules
 
-verdict-answer-requires : tie.Need-verdict-answer-requires
+verdict-answer-requires : tie.Need-verdict_answer-requires
 verdict-answer-requires c κs = search rules
 
 returns : tie.Need-returns
-returns c = c.verdict-answer.ensures ∙ ap verdict_answer c.before.is-subset-of.ensures
+returns c = c.verdict_answer.ensures ∙ ap verdict_answer c.is_subset_of.ensures
 
-pub worzubil-is-subset-of-spec : {M : Type 1} → statement M
-worzubil-is-subset-of-spec =
+pub worzubil_is_subset_of_spec : {M : Type 1} → statement M
+worzubil_is_subset_of_spec =
     tie.close (tie.spec is-subset-of-requires verdict-answer-requires returns)

@@ -5,11 +5,11 @@ use Rattle.ffi.specs.Answers.{located_answer}
 use Rattle.ffi.proofs.worzubil_locate.Statement.{statement}
 use Rattle.ffi.proofs.worzubil_locate.Tie as tie
 
-locate-requires : tie.Need-locate-requires
+locate-requires : tie.Need-locate-place-requires
 locate-requires c κs = search rules
 
 returns : tie.Need-returns
-returns c = ap located_answer c.locate.ensures
+returns c = ap located_answer c.locate-place.ensures
 
-pub worzubil-locate-spec : {M : Type 1} → statement M
-worzubil-locate-spec = tie.close (tie.spec locate-requires returns)
+pub worzubil_locate_spec : {M : Type 1} → statement M
+worzubil_locate_spec = tie.close (tie.spec locate-requires returns)

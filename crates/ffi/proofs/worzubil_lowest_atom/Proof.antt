@@ -5,15 +5,15 @@ use Rattle.ffi.specs.Answers.{lowest_answer}
 use Rattle.ffi.proofs.worzubil_lowest_atom.Statement.{statement}
 use Rattle.ffi.proofs.worzubil_lowest_atom.Tie as tie
 
-lowest-atom-requires : tie.Need-lowest-atom-requires
+lowest-atom-requires : tie.Need-lowest_atom-requires
 lowest-atom-requires c κs = search rules
 
-lowest-answer-requires : tie.Need-lowest-answer-requires
+lowest-answer-requires : tie.Need-lowest_answer-requires
 lowest-answer-requires c κs = search rules
 
 returns : tie.Need-returns
-returns c = c.lowest-answer.ensures ∙ ap lowest_answer c.before.lowest-atom.ensures
+returns c = c.lowest_answer.ensures ∙ ap lowest_answer c.lowest_atom.ensures
 
-pub worzubil-lowest-atom-spec : {M : Type 1} → statement M
-worzubil-lowest-atom-spec =
+pub worzubil_lowest_atom_spec : {M : Type 1} → statement M
+worzubil_lowest_atom_spec =
     tie.close (tie.spec lowest-atom-requires lowest-answer-requires returns)

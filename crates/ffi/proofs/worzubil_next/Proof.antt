@@ -13,13 +13,13 @@ bits-requires c κs = search rules
 next-requires : tie.Need-next-requires
 next-requires c κs = search rules
 
-next-answer-requires : tie.Need-next-answer-requires
+next-answer-requires : tie.Need-next_answer-requires
 next-answer-requires c κs = search rules
 
 returns : tie.Need-returns
 returns c =
-    c.next-answer.ensures ∙ ap next_answer c.before.next.ensures
-    ∙ ap (λ (w : ℕ). next_answer (next_of (set_bits w))) c.before.before.bits.ensures
+    c.next_answer.ensures ∙ ap next_answer c.next.ensures
+    ∙ ap (λ (w : ℕ). next_answer (next_of (set_bits w))) c.bits.ensures
 
-pub worzubil-next-spec : {M : Type 1} → statement M
-worzubil-next-spec = tie.close (tie.spec bits-requires next-requires next-answer-requires returns)
+pub worzubil_next_spec : {M : Type 1} → statement M
+worzubil_next_spec = tie.close (tie.spec bits-requires next-requires next-answer-requires returns)

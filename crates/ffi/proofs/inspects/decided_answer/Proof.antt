@@ -3,11 +3,11 @@ use borrow.Author.Rules.{rules}
 use Rattle.ffi.proofs.inspects.decided_answer.Statement.{statement}
 use Rattle.ffi.proofs.inspects.decided_answer.Tie as tie
 
-decision-answer-requires : tie.Need-decision-answer-requires
+decision-answer-requires : tie.Need-decision_answer-told-requires
 decision-answer-requires c κs = search rules
 
 returns : tie.Need-returns
-returns c = simp c.decision-answer.ensures
+returns c = simp c.decision_answer-told.ensures
 
-pub decided-answer-spec : {M : Type 1} → statement M
-decided-answer-spec = tie.close (tie.spec decision-answer-requires returns)
+pub decided_answer_spec : {M : Type 1} → statement M
+decided_answer_spec = tie.close (tie.spec decision-answer-requires returns)

@@ -3,11 +3,11 @@ use borrow.Author.Rules.{rules}
 use Rattle.ffi.proofs.inspects.inspected_answer.Statement.{statement}
 use Rattle.ffi.proofs.inspects.inspected_answer.Tie as tie
 
-step-answer-requires : tie.Need-step-answer-requires
+step-answer-requires : tie.Need-step_answer-told-requires
 step-answer-requires c κs = search rules
 
 returns : tie.Need-returns
-returns c = simp c.step-answer.ensures
+returns c = simp c.step_answer-told.ensures
 
-pub inspected-answer-spec : {M : Type 1} → statement M
-inspected-answer-spec = tie.close (tie.spec step-answer-requires returns)
+pub inspected_answer_spec : {M : Type 1} → statement M
+inspected_answer_spec = tie.close (tie.spec step-answer-requires returns)

@@ -8,11 +8,11 @@ use Rattle.ffi.proofs.inspects.worzubil_cut.Tie as tie
 cut-requires : tie.Need-cut-requires
 cut-requires c κs = search rules
 
-decided-answer-requires : tie.Need-decided-answer-requires
+decided-answer-requires : tie.Need-decided_answer-requires
 decided-answer-requires c κs = search rules
 
 returns : tie.Need-returns
-returns c = c.decided-answer.ensures ∙ ap decided_answer c.before.cut.ensures
+returns c = c.decided_answer.ensures ∙ ap decided_answer c.cut.ensures
 
-pub worzubil-cut-spec : {M : Type 1} → statement M
-worzubil-cut-spec = tie.close (tie.spec cut-requires decided-answer-requires returns)
+pub worzubil_cut_spec : {M : Type 1} → statement M
+worzubil_cut_spec = tie.close (tie.spec cut-requires decided-answer-requires returns)

@@ -8,11 +8,11 @@ use Rattle.ffi.proofs.inspects.worzubil_hold.Tie as tie
 hold-requires : tie.Need-hold-requires
 hold-requires c κs = search rules
 
-decided-answer-requires : tie.Need-decided-answer-requires
+decided-answer-requires : tie.Need-decided_answer-requires
 decided-answer-requires c κs = search rules
 
 returns : tie.Need-returns
-returns c = c.decided-answer.ensures ∙ ap decided_answer c.before.hold.ensures
+returns c = c.decided_answer.ensures ∙ ap decided_answer c.hold.ensures
 
-pub worzubil-hold-spec : {M : Type 1} → statement M
-worzubil-hold-spec = tie.close (tie.spec hold-requires decided-answer-requires returns)
+pub worzubil_hold_spec : {M : Type 1} → statement M
+worzubil_hold_spec = tie.close (tie.spec hold-requires decided-answer-requires returns)

@@ -13,13 +13,13 @@ use Rattle.ffi.proofs.inspects.worzubil_inspect.Tie as tie
 inspect-requires : tie.Need-inspect-requires
 inspect-requires c κs = search rules
 
-inspected-answer-requires : tie.Need-inspected-answer-requires
+inspected-answer-requires : tie.Need-inspected_answer-requires
 inspected-answer-requires c κs = search rules
 
-same_length : tie.Need-same-length
+same_length : tie.Need-shape_of-forced_atoms
 same_length c = search rules
 
-same-length-2 : tie.Need-same-length-2
+same-length-2 : tie.Need-shape_of-forced_values
 same-length-2 c = search rules
 
 told : {r : Inspection} {i : Inspected} {atoms values : List ℕ} {o : Outcome}
@@ -27,9 +27,9 @@ told : {r : Inspection} {i : Inspected} {atoms values : List ℕ} {o : Outcome}
 told {atoms = atoms} {values = values} answer left = ap (λ (r : Inspection). (r, (atoms, values))) answer ∙ ap outcome_answer left
 
 returns : tie.Need-returns
-returns c = told c.inspected-answer.ensures c.before.before.before.before.before.inspect.ensures
+returns c = told c.inspected_answer.ensures c.inspect.ensures
 
-pub worzubil-inspect-spec : {M : Type 1} → statement M
-worzubil-inspect-spec =
+pub worzubil_inspect_spec : {M : Type 1} → statement M
+worzubil_inspect_spec =
     tie.close
     (tie.spec inspect-requires inspected-answer-requires same_length same-length-2 returns)

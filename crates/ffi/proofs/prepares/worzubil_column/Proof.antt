@@ -16,48 +16,48 @@ use Rattle.ffi.specs.Answers.{atom_number, column_span_of}
 use Rattle.ffi.proofs.prepares.worzubil_column.Statement.{statement}
 use Rattle.ffi.proofs.prepares.worzubil_column.Tie as tie
 
-column-number-requires : tie.Need-column-number-requires
+column-number-requires : tie.Need-column_number-requires
 column-number-requires c κs = search rules
 
-returns : tie.Need-returns
+returns : tie.Need-returns-then-column_number-ne0
 unfolding column_span_of wanted_column
 returns c =
-    let a = c.before.before.before.args in
+    let a = c.args in
     let refused : eqb (column_unfit a.index.now a.n a.rank (atom_number a.atom)) 0 ≡ false
-    = ne_eqb _ 0 (λ e. c.if1.true (c.before.column-number.ensures ∙ e)) in
+    = ne_eqb _ 0 (λ e. c.if-column_number-ne0.true (c.column_number.ensures ∙ e)) in
     (simp refused, simp refused)
 
-column-requires : tie.Need-column-requires
+column-requires : tie.Need-column-words-requires
 column-requires c κs = search rules
 
-column-width-requires : tie.Need-column-width-requires
+column-width-requires : tie.Need-column_width-requires
 column-width-requires c κs = search rules
 
-fit : (c : tie.After-column-width)
-    → column_unfit c.before.before.before.before.before.args.index.now c.before.before.before.before.before.args.n
-    c.before.before.before.before.before.args.rank (atom_number c.before.before.before.before.before.args.atom) ≡ 0
-fit c = sym c.before.before.before.column-number.ensures ∙ c.before.before.if1.false
+fit : (c : tie.After-column_width)
+    → column_unfit c.args.index.now c.args.n
+    c.args.rank (atom_number c.args.atom) ≡ 0
+fit c = sym c.column_number.ensures ∙ c.if-column_number-ne0.false
 
-mul-start : tie.Need-overflow-mul-start
+mul-start : tie.Need-overflow_mul-start
 mul-start c =
-    let a = c.before.before.before.before.before.args in
+    let a = c.args in
     let w = column_width a.rank in
     let ends : a.atom * w + w ≤ length a.index.now = wanted_within a.index.now a.n a.rank (atom_number a.atom) (fit c) in
-    omega (arith, ends, ap (λ (k : ℕ). a.atom * k) c.column-width.ensures)
+    omega (arith, ends, ap (λ (k : ℕ). a.atom * k) c.column_width.ensures)
 
-returns-2 : tie.Need-returns-2
+returns-2 : tie.Need-returns
 unfolding column_span_of wanted_column
 returns-2 c =
-    let a = c.before.before.before.before.before.args in
+    let a = c.args in
     let w = column_width a.rank in
     let ends : a.atom * w + w ≤ length a.index.now = wanted_within a.index.now a.n a.rank (atom_number a.atom) (fit c) in
     let is = eq-eqb _ 0 (fit c) in
-    let words : c.before.column.result.now ≡ row w a.index.now a.atom = simp (c.before.column.ensures, is) in
-    let long : length c.before.column.result.now ≡ w = ap length words ∙ row_length w a.index.now a.atom ends in
-    (simp (is, long, c.column-width.ensures), simp (is, long, c.column-width.ensures))
+    let words : c.column-words.result.now ≡ row w a.index.now a.atom = simp (c.column-words.ensures, is) in
+    let long : length c.column-words.result.now ≡ w = ap length words ∙ row_length w a.index.now a.atom ends in
+    (simp (is, long, c.column_width.ensures), simp (is, long, c.column_width.ensures))
 
-pub worzubil-column-spec : {M : Type 1} → statement M
-worzubil-column-spec =
+pub worzubil_column_spec : {M : Type 1} → statement M
+worzubil_column_spec =
     tie.close
     (tie.spec
     column-number-requires

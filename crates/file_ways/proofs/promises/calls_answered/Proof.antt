@@ -6,5 +6,5 @@ use Rattle.file_ways.proofs.promises.calls_answered.Tie as tie
 returns : tie.Need-returns
 returns c = calls_answered
 
-pub calls-answered-spec : {M : Type 1} → statement M
-calls-answered-spec = tie.close (tie.spec returns)
+pub calls_answered_spec : {M : Type 1} → statement M
+calls_answered_spec = tie.close (tie.spec returns)

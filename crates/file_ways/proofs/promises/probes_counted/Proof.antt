@@ -6,5 +6,5 @@ use Rattle.file_ways.proofs.promises.probes_counted.Tie as tie
 returns : tie.Need-returns
 returns c = probes_counted
 
-pub probes-counted-spec : {M : Type 1} → statement M
-probes-counted-spec = tie.close (tie.spec returns)
+pub probes_counted_spec : {M : Type 1} → statement M
+probes_counted_spec = tie.close (tie.spec returns)
