@@ -1,6 +1,3 @@
--- What the walks by hand share, and the laws of lists behind them.
-pub mod Passed
-pub mod Chain
-pub mod Arrays
+-- The laws of lists behind the proofs.
 pub mod Lists
 pub mod Relent

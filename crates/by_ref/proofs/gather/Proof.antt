@@ -12,10 +12,10 @@ use Rattle.ffi.specs.declared.inspects.Inspection.{Inspection}
 use Rattle.by_ref.proofs.gather.Statement.{statement}
 use Rattle.by_ref.proofs.gather.Tie as tie
 
-least-requires : tie.Need-least-requires
+least-requires : tie.Need-least-end-requires
 least-requires c κs = search rules
 
-array-borrow-prefix-atoms : tie.Need-array-borrow-prefix-atoms
+array-borrow-prefix-atoms : tie.Need-slice_bounds-atoms-end
 array-borrow-prefix-atoms c = search rules
 
 -- the first so many of 512 zeros
@@ -25,16 +25,16 @@ zeros k = take k (replicate 512 0)
 part-long : (k room : ℕ) → k ≡ min room 512 → k ≡ length (zeros k)
 part-long k room e = sym (length-take-le k (replicate 512 0) (omega (arith, e)))
 
-slice-aggregate-worzubil-inspect : tie.Need-slice-aggregate-worzubil-inspect
-slice-aggregate-worzubil-inspect c = part-long c.before.least.result _ c.before.least.ensures
+slice-aggregate-worzubil-inspect : tie.Need-slice_bounds-worzubil_inspect-end
+slice-aggregate-worzubil-inspect c = part-long c.least-end.result _ c.least-end.ensures
 
-array-borrow-prefix-values : tie.Need-array-borrow-prefix-values
+array-borrow-prefix-values : tie.Need-slice_bounds-values-end
 array-borrow-prefix-values c = search rules
 
-slice-aggregate-worzubil-inspect-2 : tie.Need-slice-aggregate-worzubil-inspect-2
-slice-aggregate-worzubil-inspect-2 c = part-long c.before.before.least.result _ c.before.before.least.ensures
+slice-aggregate-worzubil-inspect-2 : tie.Need-slice_bounds-worzubil_inspect-end-2
+slice-aggregate-worzubil-inspect-2 c = part-long c.least-end.result _ c.least-end.ensures
 
-worzubil-inspect-requires : tie.Need-worzubil-inspect-requires
+worzubil-inspect-requires : tie.Need-worzubil_inspect-inspection-requires
 worzubil-inspect-requires c κs = search rules
 
 -- the part of an array that was lent is what the call left in it
@@ -48,16 +48,16 @@ lent i ys zs rest rest' room k o e l l' left =
 
 returns : tie.Need-returns
 returns c =
-    let call = c.before.before.worzubil-inspect in
-    let least = c.before.before.before.before.before.least in
-    let a = c.before.before.before.before.before.before.before.before.before.before.args in
+    let call = c.worzubil_inspect-inspection in
+    let least = c.least-end in
+    let a = c.args in
     lent call.result _ _ _ _ a.room least.result
     (λ atoms values. outcome_answer
     (inspect_of a.system (filled a.rows.now a.constants.now a.basis.now a.index.now) a.region a.known atoms values))
-    least.ensures call.auto.1.1.1.1.1.1.1.0 call.auto.1.1.1.1.1.1.1.1.0 call.ensures
+    least.ensures call.auto.forced_atoms call.auto.forced_values call.ensures
 
-pub gather-spec : {M : Type 1} → statement M
-gather-spec =
+pub gather_spec : {M : Type 1} → statement M
+gather_spec =
     tie.close
     (tie.spec
     least-requires

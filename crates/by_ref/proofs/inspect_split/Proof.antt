@@ -10,16 +10,16 @@ use Rattle.by_ref.specs.declared.Split.{Split}
 use Rattle.by_ref.proofs.inspect_split.Statement.{statement}
 use Rattle.by_ref.proofs.inspect_split.Tie as tie
 
-worzubil-inspect-requires : tie.Need-worzubil-inspect-requires
+worzubil-inspect-requires : tie.Need-worzubil_inspect-requires
 worzubil-inspect-requires c κs = search rules
 
 parted-requires : tie.Need-parted-requires
 parted-requires c κs = search rules
 
-same_length : tie.Need-same-length
+same_length : tie.Need-shape_of-forced_atoms
 same_length c = search rules
 
-same-length-2 : tie.Need-same-length-2
+same-length-2 : tie.Need-shape_of-forced_values
 same-length-2 c = search rules
 
 told : {r : Split} {i : Inspection} {atoms values : List ℕ} {o : Inspection × (List ℕ × List ℕ)}
@@ -27,9 +27,9 @@ told : {r : Split} {i : Inspection} {atoms values : List ℕ} {o : Inspection ×
 told {atoms = atoms} {values = values} parts left = ap (λ (r : Split). (joined r.seen r.known, (atoms, values))) parts ∙ left
 
 returns : tie.Need-returns
-returns c = told c.parted.ensures c.before.before.before.before.before.worzubil-inspect.ensures
+returns c = told c.parted.ensures c.worzubil_inspect.ensures
 
-pub inspect-split-spec : {M : Type 1} → statement M
-inspect-split-spec =
+pub inspect_split_spec : {M : Type 1} → statement M
+inspect_split_spec =
     tie.close
     (tie.spec worzubil-inspect-requires parted-requires same_length same-length-2 returns)

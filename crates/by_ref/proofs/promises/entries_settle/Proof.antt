@@ -6,5 +6,5 @@ use Rattle.by_ref.proofs.promises.entries_settle.Tie as tie
 returns : tie.Need-returns
 returns c = entries_settle
 
-pub entries-settle-spec : {M : Type 1} → statement M
-entries-settle-spec = tie.close (tie.spec returns)
+pub entries_settle_spec : {M : Type 1} → statement M
+entries_settle_spec = tie.close (tie.spec returns)
