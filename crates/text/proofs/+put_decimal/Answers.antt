@@ -4,7 +4,7 @@ use mathlib.Core.Path.{sym, ap, ◌∙◌}
 use mathlib.Core.List.{[], ◌∷◌, ◌++◌}
 use native.Mathlib.Omega.{arith}
 use Rattle.text.specs.Text.{decimal_of}
-use Rattle.text.proofs.Written.{wrote_is, wrote_both, wrote_length}
+use Rattle.text.proofs.Written.{wrote_is, wrote_both}
 use Rattle.text.proofs.Decimals.{small, more}
 use Rattle.text.proofs.+put_decimal.Goals as goal
 
