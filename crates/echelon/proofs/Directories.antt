@@ -1,5 +1,5 @@
 -- The directory after one row more: an empty row changes nothing, and a pivot is entered at its lowest atom.
-use Prim.Native.Nat.{ℕ, zero, suc, ◌≤◌, ◌<◌}
+use Prim.Native.Nat.{ℕ, zero, suc, ◌*◌, ◌≤◌, ◌<◌}
 use mathlib.Core.Path.{◌≡◌, refl, ap, ◌∙◌}
 use mathlib.Core.List.{List}
 use mathlib.Core.Bool.{Bool, true, false, cond}
@@ -33,7 +33,7 @@ get_d_zeros zero a = refl
 get_d_zeros (suc k) zero = refl
 get_d_zeros (suc k) (suc a) = get_d_zeros k a
 
-pub directory_start : (n w : ℕ) (ws cs heads sources : List ℕ) → ((a : ℕ) → get_or heads a 0 ≡ 0) → n ≤ length heads → n ≤ length sources
+pub directory_start : (n w : ℕ) (ws cs heads sources : List ℕ) → ((a : ℕ) → get_or heads a 0 ≡ 0) → w * 64 ≤ length heads → w * 64 ≤ length sources
     → Directory n w 0 ws cs heads sources
 unfolding rows_to
 directory_start n w ws cs heads sources zeros l l' = record {
@@ -79,7 +79,7 @@ module _ (n w t : ℕ) (ws cs heads sources : List ℕ) (dir : Directory n w t w
     known = λ a h. known_on (get_or heads a 0) (get_or sources a 0) a (dir.known a h) (λ r low. none_low r.atoms (row_at n w ws cs t).atoms e);
   }
 
-  module _ (head lowest : ℕ) (some-head : 0 < head) (pivot : Pivot n w t ws cs head lowest) where
+  module _ (wide : n ≤ w * 64) (head lowest : ℕ) (some-head : 0 < head) (pivot : Pivot n w t ws cs head lowest) where
     heads' : List ℕ
     heads' = set heads lowest head
 

@@ -77,12 +77,11 @@ pub record Turn (n w t i : ℕ) (ws cs ws' cs' : List ℕ) (word k : ℕ) : Type
   pub onward : Onward (rows_to n w ws cs t) (row_at n w ws cs t) k (worked n w t ws' cs' i word)
 
 module _ (n w t i : ℕ) (ws cs : List ℕ) (inside : i < w) (clean : Clean n w t ws cs) where
-  pub turn_start : EmptyTo w t ws i → get_or ws (t * w + i) 0 < 2 ^ 64 → Turn n w t i ws cs ws cs (get_or ws (t * w + i) 0) 0
+  pub turn_start : EmptyTo w t ws i → get_or (row w ws t) i 0 < 2 ^ 64 → Turn n w t i ws cs ws cs (get_or (row w ws t) i 0) 0
   unfolding row_at
   turn_start below lt =
       let room : i < length (row w ws t) = omega (arith, row_length w ws t clean.words) in
-      let same = row_word w t ws i inside in
-      let whole = from_whole (row w ws t) i room (rw same lt) below ∙ ap (from (row w ws t) i) same in
+      let whole = from_whole (row w ws t) i room lt below in
       record {
         only = only_start w t ws cs;
         below = below;

@@ -12,7 +12,7 @@ use borrow.Author.Tests.{ne_eqb, eqb-true, eqb-false}
 use lib.Dec.{eqb}
 use Rattle.words.specs.Set.{set_of}
 use Rattle.rows.specs.Row.{Row}
-use Rattle.rows.specs.Flat.{row, row_at, atoms_of}
+use Rattle.rows.specs.Flat.{row_at, atoms_of}
 use Rattle.echelon.specs.Forward.{State, empty, joined, next, reduced, eliminated}
 use Rattle.echelon.specs.Eliminate.{rows_to, words_of, constants_of, written, outcome}
 use Rattle.echelon.specs.Promises.{Sized}
@@ -217,10 +217,10 @@ module _ (n w t : ℕ) (ws cs ps ws' cs' ps' heads sources : List ℕ) (rank add
           let handed = rows_le n rs in
           omega (arith, rank_next, rows_length n w ws cs (suc t))
 
-      upto_pivot : rank < length ps
+      upto_pivot : rank < length ps → n ≤ w * 64
           → Upto n w (suc t) ws cs ps ws'' cs'' (set ps' rank t) (set heads lowest head) (set sources lowest t) (rank + 1) (additions + k)
       unfolding st left
-      upto_pivot room =
+      upto_pivot room wide =
           let split : ps' ≡ st.basis ++ get_or ps rank 0 ∷ drop (suc rank) ps = so.basis ∙ ap (λ (l : List ℕ). st.basis ++ l) (drop-cons ps rank 0 room) in
           upto_next (set ps' rank t) (set heads lowest head) (set sources lowest t) (rank + 1) (simp length-set so.entries)
           (ap (λ (l : List ℕ). set l rank t) split ∙ set_at st.basis (get_or ps rank 0) (drop (suc rank) ps) t rank (sym so.rank_is)
@@ -228,13 +228,13 @@ module _ (n w t : ℕ) (ws cs ps ws' cs' ps' heads sources : List ℕ) (rank add
           ∙ ap₂ (λ (b : Bool) (i : ℕ). joined b t st.basis ++ drop i ps) (sym left_some) (sym (add-one rank)))
           (ap (λ (i : ℕ). i + 1) so.rank_is ∙ sym (length-append st.basis (t ∷ [])) ∙ ap (λ (b : Bool). length (joined b t st.basis)) (sym left_some))
           (ap (λ (b : Bool). b && left.constant) left_some)
-          (directory_pivot n w t ws'' cs'' heads sources directory_here f.clean head lowest some-head (f.pivot some-head))
+          (directory_pivot n w t ws'' cs'' heads sources directory_here f.clean wide head lowest some-head (f.pivot some-head))
 
     -- either of the two, as `enter` leaves it
-    pub upto_turn : (eqb head 0 && eqb (get_or cs'' t 0) 1) ≡ false → (m : ℕ) → t < m → min m n ≤ length ps
+    pub upto_turn : (eqb head 0 && eqb (get_or cs'' t 0) 1) ≡ false → (m : ℕ) → t < m → min m n ≤ length ps → n ≤ w * 64
         → Upto n w (suc t) ws cs ps ws'' cs'' (cond (eqb head 0) ps' (set ps' rank t)) (cond (eqb head 0) heads (set heads lowest head))
         (cond (eqb head 0) sources (set sources lowest t)) (cond (eqb head 0) rank (rank + 1)) (additions + k)
-    upto_turn sound m h room = go (eqb head 0) refl
+    upto_turn sound m h room wide = go (eqb head 0) refl
       where
         go : (b : Bool) → eqb head 0 ≡ b
             → Upto n w (suc t) ws cs ps ws'' cs'' (cond b ps' (set ps' rank t)) (cond b heads (set heads lowest head)) (cond b sources (set sources lowest t)) (cond b rank (rank + 1)) (additions + k)
@@ -242,7 +242,7 @@ module _ (n w t : ℕ) (ws cs ps ws' cs' ps' heads sources : List ℕ) (rank add
             upto_empty (eqb-true head 0 e) (eqb-false (get_or cs'' t 0) 1 (ap (λ (b : Bool). b && eqb (get_or cs'' t 0) 1) (sym e) ∙ sound))
         go false e =
             let some-head : 0 < head = omega (arith, eqb-false head 0 e) in
-            upto_pivot some-head (omega (arith, pivot_room some-head m h))
+            upto_pivot some-head (omega (arith, pivot_room some-head m h)) wide
 
     -- the row is left empty with constant 1: the end
     pub upto_refuted : (m : ℕ) → t < m → (eqb head 0 && eqb (get_or cs'' t 0) 1) ≡ true → ((i : ℕ) → get_or ws'' i 0 < 2 ^ 64)

@@ -52,8 +52,8 @@ pub record Known (n w t : ℕ) (ws cs : List ℕ) (h s a : ℕ) : Type 0 where
   pub found : 0 < h → (r : Row) → Lowest r a → find r (rows_to n w ws cs t) ≡ some (row_at n w ws cs s)
 
 pub record Directory (n w t : ℕ) (ws cs heads sources : List ℕ) : Type 0 where
-  pub heads_wide : n ≤ length heads
-  pub sources_wide : n ≤ length sources
+  pub heads_wide : w * 64 ≤ length heads
+  pub sources_wide : w * 64 ≤ length sources
   pub clean : (r : ℕ) → r < t → Clean n w r ws cs
   pub known : (a : ℕ) → a < n → Known n w t ws cs (get_or heads a 0) (get_or sources a 0) a
 

@@ -2,6 +2,7 @@
 #![tactic(auto)]
 
 ghost use Rattle.std.specs.Prelude.{◌≡◌, cond, ◌&&◌, ℕ, ◌+◌, ◌*◌, ◌≤◌, ◌<◌, min, length, get_or, set, eqb};
+ghost use Rattle.rows.specs.Flat.{width_of};
 ghost use Rattle.echelon.specs.Forward.{eliminated};
 ghost use Rattle.echelon.specs.Eliminate.{rows_to, written, outcome, eliminate_unfit, eliminate_of};
 ghost use Rattle.echelon.specs.Steps.{Clean};
@@ -65,7 +66,7 @@ fn eliminate_rows(
     heads: &mut [u64],
     sources: &mut [usize],
 ) -> Eliminated
-    requires { (n ≤ 512) × (m ≤ 512) × (m * width ≤ length rows.old) × (m ≤ length constants.old) × (min m n ≤ length basis.old) × ((r : ℕ) → r < m → Clean n width r rows.old constants.old) × ((a : ℕ) → get_or heads.old a 0 ≡ 0) × (n ≤ length heads.old) × (n ≤ length sources.old) }
+    requires { (n ≤ 512) × (m ≤ 512) × (width ≡ width_of n) × (m * width ≤ length rows.old) × (m ≤ length constants.old) × (min m n ≤ length basis.old) × ((r : ℕ) → r < m → Clean n width r rows.old constants.old) × ((a : ℕ) → get_or heads.old a 0 ≡ 0) × (width * 64 ≤ length heads.old) × (width * 64 ≤ length sources.old) }
     ensures { outcome result rows.new constants.new basis.new ≡ written width (eliminated n (rows_to n width rows.old constants.old m)) rows.old constants.old basis.old }
 {
     let mut rank = 0;
@@ -128,10 +129,10 @@ pub fn eliminate(
         };
     }
     let width = rows::width(n);
-    // Up to 8 and up to 64 atoms a smaller directory serves, which is sooner cleared.
-    if n <= 8 {
-        let mut few_heads = [0; 8];
-        let mut few_sources = [0; 8];
+    // Up to 64 atoms a smaller directory serves, which is sooner cleared.
+    if n <= 64 {
+        let mut few_heads = [0; 64];
+        let mut few_sources = [0; 64];
         return eliminate_rows(
             n,
             m,
@@ -141,20 +142,6 @@ pub fn eliminate(
             basis,
             &mut few_heads,
             &mut few_sources,
-        );
-    }
-    if n <= 64 {
-        let mut some_heads = [0; 64];
-        let mut some_sources = [0; 64];
-        return eliminate_rows(
-            n,
-            m,
-            width,
-            rows,
-            constants,
-            basis,
-            &mut some_heads,
-            &mut some_sources,
         );
     }
     let mut heads = [0; 512];

@@ -2,7 +2,6 @@
 // pivot, the pivot's number and its word with that atom (its head); the word under work stays in a local, and only later words are added
 // in memory.
 ghost use Rattle.std.specs.Prelude.{◌≡◌, ◌+◌, ◌*◌, ◌≤◌, ◌<◌, length, get_or};
-ghost use Rattle.std.specs.Int.Count.{count_trailing_zeros};
 ghost use Rattle.rows.specs.Flat.{row};
 ghost use Rattle.echelon.specs.Steps.{added_from, Clean, EmptyTo, Directory, head_of, Reduced, Finished};
 
@@ -25,7 +24,7 @@ pub struct LeftRow {
 
 // The head of the pivot of the lowest atom of word i, or 0 where there is none.
 fn head_of(heads: &[u64], i: usize, word: u64) -> u64
-    requires { 0 < word → i * 64 + count_trailing_zeros 64 word < length heads.now }
+    requires { i * 64 + 64 ≤ length heads.now }
     ensures { result ≡ head_of heads.now i word }
 {
     if word == 0 {
@@ -59,7 +58,7 @@ fn reduce_word(
     heads: &[u64],
     sources: &[usize],
 ) -> LeftWord
-    requires { (i < width) × Clean n width number.0 rows.old constants.old × EmptyTo width number.0 rows.old i × Directory n width number.0 rows.old constants.old heads.now sources.now }
+    requires { (width ≤ 8) × (i < width) × Clean n width number.0 rows.old constants.old × EmptyTo width number.0 rows.old i × Directory n width number.0 rows.old constants.old heads.now sources.now }
     ensures left { Reduced n width number.0 i rows.old constants.old rows.new constants.new result.additions }
     ensures word { result.word ≡ get_or (row width rows.new number.0) i 0 }
     ensures done { head_of heads.now i result.word ≡ 0 }
@@ -84,39 +83,20 @@ fn reduce_word(
     }
 }
 
-// The first word of a row that is not empty, or `width`.
-fn first_word(rows: &[u64], width: usize, number: Source) -> usize
-    requires { number.0 * width + width ≤ length rows.now }
-    ensures within { result ≤ width }
-    ensures before { EmptyTo width number.0 rows.now result }
-    ensures there { result < width → 0 < get_or rows.now (number.0 * width + result) 0 }
-{
-    let start = number.0 * width;
-    let mut i = 0;
-    while i < width {
-        if rows[start + i] != 0 {
-            return i;
-        }
-        i += 1;
-    }
-    i
-}
-
-// Reduces a row whose words before word `first` are empty, until its lowest atom has no pivot among the earlier rows, or it is empty.
-fn reduce_from(
+// Reduces a row until its lowest atom has no pivot among the earlier rows, or it is empty.
+pub fn reduce_row(
     rows: &mut [u64],
     constants: &mut [u8],
     n: usize,
     width: usize,
     number: Source,
-    first: usize,
     heads: &[u64],
     sources: &[usize],
 ) -> LeftRow
-    requires { (first ≤ width) × Clean n width number.0 rows.old constants.old × EmptyTo width number.0 rows.old first × Directory n width number.0 rows.old constants.old heads.now sources.now }
+    requires { (width ≤ 8) × (n ≤ width * 64) × Clean n width number.0 rows.old constants.old × Directory n width number.0 rows.old constants.old heads.now sources.now }
     ensures { Finished n width number.0 rows.old constants.old rows.new constants.new result.head result.lowest.0 result.additions }
 {
-    let mut i = first;
+    let mut i = 0;
     let mut additions = 0;
     while i < width {
         let left = reduce_word(rows, constants, n, width, number, i, heads, sources);
@@ -135,32 +115,4 @@ fn reduce_from(
         lowest: Atom(0),
         additions: additions,
     }
-}
-
-// Reduces a row until its lowest atom has no pivot among the earlier rows, or it is empty. Where it has none from the start, nothing is
-// added.
-pub fn reduce_row(
-    rows: &mut [u64],
-    constants: &mut [u8],
-    n: usize,
-    width: usize,
-    number: Source,
-    heads: &[u64],
-    sources: &[usize],
-) -> LeftRow
-    requires { Clean n width number.0 rows.old constants.old × Directory n width number.0 rows.old constants.old heads.now sources.now }
-    ensures { Finished n width number.0 rows.old constants.old rows.new constants.new result.head result.lowest.0 result.additions }
-{
-    let first = first_word(rows, width, number);
-    if first < width {
-        let word = rows[number.0 * width + first];
-        if head_of(heads, first, word) == 0 {
-            return LeftRow {
-                head: word,
-                lowest: Atom(first * 64 + u64::trailing_zeros(word) as usize),
-                additions: 0,
-            };
-        }
-    }
-    reduce_from(rows, constants, n, width, number, first, heads, sources)
 }

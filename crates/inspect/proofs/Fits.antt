@@ -4,7 +4,6 @@ use mathlib.Core.Path.{◌≡◌, refl, ap}
 use mathlib.Core.Bool.{Bool, true, false, not, ◌&&◌, ◌||◌}
 use native.Mathlib.Omega.{arith}
 use borrow.Author.Tests.{ltb-false, eqb-true, not-true, not-false, le-ltb, eq-eqb}
-use mathlib.Core.List.{List}
 use lib.ListN.{length, get_or}
 use lib.Dec.{ltb, eqb}
 use Rattle.rows.specs.Flat.{width_of}
@@ -18,12 +17,11 @@ use Rattle.parity.specs.declared.System.{System}
 use Rattle.region.specs.Calls.{strayed, clashes, region_unfit}
 use Rattle.region.specs.declared.Region.{Region}
 use Rattle.snapshot.specs.Knowledge.{overfull_by, unequal, missing}
-use Rattle.snapshot.specs.Touch.{over_ranked}
 use Rattle.snapshot.specs.declared.Snapshot.{Snapshot}
 use Rattle.snapshot.proofs.Chained.{and_none}
-use Rattle.inspect.specs.Inspect.{Filled, lists_short, inspect_over_unfit, inspect_unfit}
+use Rattle.inspect.specs.Inspect.{Filled, lists_short, inspect_unfit}
 
-pub record Fits (over : Bool) (s : System) (l : Filled) (r : Region) (known : Snapshot) (atoms values : ℕ) : Type 0 where
+pub record Fits (s : System) (l : Filled) (r : Region) (known : Snapshot) (atoms values : ℕ) : Type 0 where
   pub lent : Fit s.atoms s.rows l.rows l.constants
   pub ranked : s.rank ≤ min s.rows s.atoms
   pub entries : min s.rows s.atoms ≤ length l.basis
@@ -32,7 +30,7 @@ pub record Fits (over : Bool) (s : System) (l : Filled) (r : Region) (known : Sn
   pub values_room : s.rank ≤ values
   pub region : region_unfit r ≡ 0
   pub named : (j : ℕ) → j < s.rank → get_or l.basis j 0 < s.rows
-  pub within_rank : over ≡ false
+  pub below_rank : s.refuted ≡ false → over_rank s.rank (column_width s.rank) l.index s.atoms ≡ false
   pub same_atoms : r.atoms ≡ s.atoms
   pub known_atoms : known.initialized ≡ true → known.atoms ≡ r.atoms
   pub ancestor : missing r known ≡ false
@@ -43,22 +41,18 @@ under_back : (a b : Bool) → (a ≡ true → b ≡ false) → (a && b) ≡ fals
 under_back true b h = h refl
 under_back false b h = refl
 
-pub ranked_within : (s : System) (index : List ℕ) → (s.refuted ≡ false → over_rank s.rank (column_width s.rank) index s.atoms ≡ false)
-    → over_ranked s index ≡ false
-ranked_within s index below = under_back (not s.refuted) _ (λ sound. below (not-true s.refuted sound))
-
 module _ (s : System) (l : Filled) (r : Region) (known : Snapshot) (atoms values : ℕ) where
-  pub over_fits : (over : Bool) → inspect_over_unfit over s l r known atoms values ≡ 0 → Fits over s l r known atoms values
-  unfolding region_unfit
-  over_fits over e =
+  pub unfit_fits : inspect_unfit s l r known atoms values ≡ 0 → Fits s l r known atoms values
+  unfolding inspect_unfit region_unfit
+  unfit_fits e =
       let full = passed (overfull_by s r known) 9 _ e in
       let rank = passed (ltb (min s.rows s.atoms) s.rank) 12 _ full.1 in
       let nine = passed (short s.atoms s.rows l.rows l.constants || lists_short s (length l.basis) (length l.index) atoms values) 8 _ rank.1 in
       let stray = passed (strays s.atoms (width_of s.atoms) l.rows l.constants s.rows || strayed r) 10 _ nine.1 in
       let clash = passed (clashes r) 11 _ stray.1 in
       let name = passed (misnames s.rows l.basis s.rank) 12 _ clash.1 in
-      let within = passed over 13 _ name.1 in
-      let counts = passed (unequal s r known) 14 _ within.1 in
+      let over = passed (not s.refuted && over_rank s.rank (column_width s.rank) l.index s.atoms) 13 _ name.1 in
+      let counts = passed (unequal s r known) 14 _ over.1 in
       let old = passed (missing r known) 15 _ counts.1 in
       let limits = or_none (overfull s.atoms s.rows) _ full.0 in
       let system = or_none (ltb 512 s.atoms) (ltb 512 s.rows) limits.0 in
@@ -81,17 +75,13 @@ module _ (s : System) (l : Filled) (r : Region) (known : Snapshot) (atoms values
         values_room = ltb-false values s.rank lists.1;
         region = simp (others.0, strange.1, clash.0);
         named = names_each s.rows l.basis s.rank name.0;
-        within_rank = within.0;
+        below_rank = λ sound. and_none _ _ over.0 (ap not sound);
         same_atoms = eqb-true r.atoms s.atoms (not-false _ count.0);
         known_atoms = λ set. eqb-true known.atoms r.atoms (not-false _ (and_none _ _ count.1 set));
         ancestor = old.0;
       }
 
-  pub unfit_fits : inspect_unfit s l r known atoms values ≡ 0 → Fits (over_ranked s l.index) s l r known atoms values
-  unfolding inspect_unfit
-  unfit_fits = over_fits (over_ranked s l.index)
-
-  pub fits_unfit : Fits (over_ranked s l.index) s l r known atoms values → inspect_unfit s l r known atoms values ≡ 0
+  pub fits_unfit : Fits s l r known atoms values → inspect_unfit s l r known atoms values ≡ 0
   unfolding inspect_unfit region_unfit
   fits_unfit f =
       let full = passed (ltb 512 r.atoms) 9 _ f.region in
@@ -117,7 +107,7 @@ module _ (s : System) (l : Filled) (r : Region) (known : Snapshot) (atoms values
         stray.0,
         clash.0,
         names_none s.rows l.basis s.rank f.named,
-        f.within_rank,
+        under_back (not s.refuted) (over_rank s.rank (column_width s.rank) l.index s.atoms) (λ sound. f.below_rank (not-true s.refuted sound)),
         eq-eqb r.atoms s.atoms f.same_atoms,
         under_back known.initialized (not (eqb known.atoms r.atoms)) (λ set. ap not (eq-eqb _ _ (f.known_atoms set))),
         f.ancestor,

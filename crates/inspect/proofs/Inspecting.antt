@@ -31,7 +31,7 @@ use Rattle.inspect.specs.declared.Step.{Step}
 use Rattle.inspect.specs.declared.Step.TheVariants.{Unchanged, Refuted, Refused}
 use Rattle.inspect.specs.Consequences.{Consequences, says_by, reading_of, joins, consequences}
 use Rattle.inspect.specs.Batch.{begun, applied}
-use Rattle.inspect.specs.Inspect.{Filled, told_of, Outcome, outcome, atoms_from, values_from, ended, concluded, found, inspect_over_unfit, inspected, inspect_over_of}
+use Rattle.inspect.specs.Inspect.{Filled, told_of, Outcome, outcome, atoms_from, values_from, ended, concluded, found, inspect_unfit, inspected, inspect_of}
 use Rattle.inspect.specs.Promises.{basis_in}
 use Rattle.inspect.specs.Steps.{Named, Gathered, forced_in}
 use Rattle.inspect.proofs.Fits.{Fits}
@@ -115,9 +115,9 @@ named_of s ws cs ps fit ranked entries names = record {
       };
 }
 
-pub fits_named : (over : Bool) (s : System) (l : Filled) (r : Region) (known : Snapshot) (atoms values : ℕ) → Fits over s l r known atoms values
+pub fits_named : (s : System) (l : Filled) (r : Region) (known : Snapshot) (atoms values : ℕ) → Fits s l r known atoms values
     → Named s.atoms s.rank l.rows l.constants l.basis
-fits_named over s l r known atoms values fits =
+fits_named s l r known atoms values fits =
     named_of s l.rows l.constants l.basis fits.lent fits.ranked fits.entries fits.named
 
 -- a fit region is published
@@ -128,22 +128,22 @@ publishes known r fit =
 
 -- ---- the call
 
-module _ (over : Bool) (s : System) (l : Filled) (r : Region) (known : Snapshot) (atoms values : List ℕ) (k : ℕ)
-    (is : k ≡ inspect_over_unfit over s l r known (length atoms) (length values)) where
+module _ (s : System) (l : Filled) (r : Region) (known : Snapshot) (atoms values : List ℕ) (k : ℕ)
+    (is : k ≡ inspect_unfit s l r known (length atoms) (length values)) where
   abbrev answered : Outcome
-  answered = inspect_over_of over s l r known atoms values
+  answered = inspect_of s l r known atoms values
 
   abbrev back : ℕ → Outcome
   back number = outcome (told_of (Refused number) 0 0 0 r known) atoms values
 
   pub refused : (k ≡ 0 → ⊥) → back k ≡ answered
-  unfolding inspect_over_of
+  unfolding inspect_of
   refused ne =
       refused_is k (inspected s l r known atoms values) back ne ∙ ap (λ (j : ℕ). or_refused j (inspected s l r known atoms values) back) is
 
   module _ (e : k ≡ 0) where
     whole : inspected s l r known atoms values ≡ answered
-    unfolding inspect_over_of
+    unfolding inspect_of
     whole = ap (λ (j : ℕ). or_refused j (inspected s l r known atoms values) back) (sym e ∙ is)
 
     abbrev c : Consequences

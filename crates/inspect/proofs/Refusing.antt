@@ -1,25 +1,23 @@
 -- From what the tests of `unfit` say to the number of the nine checks: the rows' own number beside the other lists, and what is asked after it.
-use Prim.Native.Nat.{ℕ, ◌*◌, ◌≤◌, min}
+use Prim.Native.Nat.{ℕ, ◌≤◌, min}
 use mathlib.Core.Path.{◌≡◌, refl, sym, ap, ap₂, ◌∙◌}
 use mathlib.Core.List.{List, [], ◌∷◌}
 use mathlib.Core.Bool.{Bool, true, false, cond, not, ◌&&◌, ◌||◌}
 use native.Mathlib.Omega.{arith}
-use borrow.Author.Tests.{le-ltb, ltb-false}
+use borrow.Author.Tests.{le-ltb}
 use lib.ListN.{length}
-use lib.Dec.{ltb}
 use Rattle.rows.specs.Flat.{width_of}
 use Rattle.fit.specs.Refusal.{refusal}
 use Rattle.fit.specs.Rows.{short, strays, misnames, rows_unfit}
-use Rattle.fit.proofs.Among.{or_none}
 use Rattle.index.specs.Index.{column_width}
+use Rattle.index.specs.Column.{over_rank}
 use Rattle.parity.specs.declared.System.{System}
 use Rattle.region.specs.Calls.{strayed, clashes}
 use Rattle.region.specs.declared.Region.{Region}
 use Rattle.snapshot.specs.Knowledge.{overfull_by, unequal, missing}
 use Rattle.snapshot.specs.declared.Snapshot.{Snapshot}
-use Rattle.snapshot.specs.Touch.{over_ranked, past_rank_of}
-use Rattle.snapshot.proofs.Chained.{passes, limits, over_rank_is}
-use Rattle.inspect.specs.Inspect.{Filled, lists_short, inspect_over_unfit, inspect_unfit, inspect_by, inspect_of, inspect_over_of}
+use Rattle.snapshot.proofs.Chained.{passes}
+use Rattle.inspect.specs.Inspect.{Filled, lists_short, inspect_unfit}
 
 pub or_left : (a b : Bool) → a ≡ true → (a || b) ≡ true
 or_left a b e = ap (λ (t : Bool). t || b) e
@@ -67,48 +65,21 @@ module _ (n m : ℕ) (ws cs : List ℕ) (few : n ≤ 512) (few' : m ≤ 512) (k 
 
 -- ---- the checks after the region's own, and those before it
 
-abbrev pub late : Bool → System → Filled → Region → Snapshot → List (ℕ × Bool)
-late over s l r known =
-    (13, misnames s.rows l.basis s.rank) ∷ (14, over) ∷ (15, unequal s r known) ∷ (16, missing r known) ∷ []
+abbrev pub late : System → Filled → Region → Snapshot → List (ℕ × Bool)
+late s l r known =
+    (13, misnames s.rows l.basis s.rank) ∷
+    (14, not s.refuted && over_rank s.rank (column_width s.rank) l.index s.atoms) ∷
+    (15, unequal s r known) ∷
+    (16, missing r known) ∷
+    []
 
-pub after_rows : (over : Bool) (s : System) (l : Filled) (r : Region) (known : Snapshot) (atoms values : ℕ)
+pub after_rows : (s : System) (l : Filled) (r : Region) (known : Snapshot) (atoms values : ℕ)
     → overfull_by s r known ≡ false → s.rank ≤ min s.rows s.atoms
     → short s.atoms s.rows l.rows l.constants ≡ false
     → lists_short s (length l.basis) (length l.index) atoms values ≡ false
     → strays s.atoms (width_of s.atoms) l.rows l.constants s.rows ≡ false
-    → (k : ℕ) → k ≡ refusal ((11, strayed r) ∷ (12, clashes r) ∷ late over s l r known) → k ≡ inspect_over_unfit over s l r known atoms values
-after_rows over s l r known atoms values full rank enough room clean k is =
-    let stray = is ∙ ap (λ (t : Bool). cond (t || strayed r) 11 (refusal ((12, clashes r) ∷ late over s l r known))) (sym clean) in
-    passes _ 10 full (passes _ 13 (le-ltb _ _ rank) (passes _ 9 (ap₂ ◌||◌ enough room) stray))
-
--- ---- 14 by `past_rank`, which answers the same where no check before it refuses
-
-by_then : (a b c x y : Bool) (more : Bool → List (ℕ × Bool)) → (a ≡ false → b ≡ false → c ≡ false → x ≡ y)
-    → refusal ((10, a) ∷ (13, b) ∷ (9, c) ∷ more x) ≡ refusal ((10, a) ∷ (13, b) ∷ (9, c) ∷ more y)
-by_then true b c x y more same = refl
-by_then false true c x y more same = refl
-by_then false false true x y more same = refl
-by_then false false false x y more same = ap (λ (t : Bool). refusal (more t)) (same refl refl refl)
-
-past_unfit : (s : System) (l : Filled) (r : Region) (known : Snapshot) (atoms values : ℕ)
-    → inspect_over_unfit (past_rank_of s l.index) s l r known atoms values ≡ inspect_unfit s l r known atoms values
+    → (k : ℕ) → k ≡ refusal ((11, strayed r) ∷ (12, clashes r) ∷ late s l r known) → k ≡ inspect_unfit s l r known atoms values
 unfolding inspect_unfit
-past_unfit s l r known atoms values =
-    let few = short s.atoms s.rows l.rows l.constants in
-    let stray = strays s.atoms (width_of s.atoms) l.rows l.constants s.rows || strayed r in
-    let same : overfull_by s r known ≡ false → ltb (min s.rows s.atoms) s.rank ≡ false
-    → (few || lists_short s (length l.basis) (length l.index) atoms values) ≡ false → past_rank_of s l.index ≡ over_ranked s l.index =
-    λ full rank nine.
-    let within = limits s r known full in
-    let basis = or_none (ltb (length l.basis) (min s.rows s.atoms)) _ (or_none few _ nine).1 in
-    let index = or_none (ltb (length l.index) (s.atoms * column_width s.rank)) _ basis.1 in
-    let low : s.rank ≤ 512 = omega (arith, within.atoms, ltb-false (min s.rows s.atoms) s.rank rank) in
-    ap (λ (t : Bool). not s.refuted && t) (over_rank_is l.index s.atoms s.rank (record { 0 = 0 }) within.atoms low (ltb-false _ _ index.0)) in
-    by_then (overfull_by s r known) _ _ (past_rank_of s l.index) (over_ranked s l.index) (λ over. (11, stray) ∷ (12, clashes r) ∷ late over s l r known) same
-
--- so a caller that has asked `past_rank` is answered as by `inspect`
-pub past_inspects : (s : System) (l : Filled) (r : Region) (known : Snapshot) (atoms values : List ℕ)
-    → inspect_over_of (past_rank_of s l.index) s l r known atoms values ≡ inspect_of s l r known atoms values
-unfolding inspect_of inspect_over_of
-past_inspects s l r known atoms values =
-    ap (λ (number : ℕ). inspect_by number s l r known atoms values) (past_unfit s l r known (length atoms) (length values))
+after_rows s l r known atoms values full rank enough room clean k is =
+    let stray = is ∙ ap (λ (t : Bool). cond (t || strayed r) 11 (refusal ((12, clashes r) ∷ late s l r known))) (sym clean) in
+    passes _ 10 full (passes _ 13 (le-ltb _ _ rank) (passes _ 9 (ap₂ ◌||◌ enough room) stray))

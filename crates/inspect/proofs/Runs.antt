@@ -40,7 +40,7 @@ use Rattle.inspect.specs.declared.Step.{Step}
 use Rattle.inspect.specs.declared.Step.TheVariants.{Unchanged, Changed, Refused}
 use Rattle.inspect.specs.Run.{Call, hold, cut, inspect, State, begins, step, after}
 use Rattle.inspect.specs.Promises.{filled_by, RegionsFit, KnowledgeAncestor, NeverRefused}
-use Rattle.inspect.proofs.Fits.{ranked_within, fits_unfit}
+use Rattle.inspect.proofs.Fits.{fits_unfit}
 use Rattle.inspect.proofs.Following.{chosen}
 use Rattle.inspect.proofs.Batches.{gains}
 use Rattle.inspect.proofs.Inspections.{grown, grown_length, leaves}
@@ -255,7 +255,7 @@ prepared_fit n m q f p long known k atoms values room room' =
       values_room = room';
       region = region_fits p few;
       named = λ j h. rw f.rows (f.named j h);
-      within_rank = ranked_within q.0.system q.1.index (λ sound. rw f.atoms (f.bits sound));
+      below_rank = λ sound. rw f.atoms (f.bits sound);
       same_atoms = region_atoms p ∙ long ∙ sym f.atoms;
       known_atoms = λ set. ancestor_atoms p known k set ∙ sym (region_atoms p);
       ancestor = none_missing p few known k;

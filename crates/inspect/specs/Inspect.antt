@@ -1,16 +1,17 @@
 -- What `inspect` answers and leaves in the two lists lent to it, for fit and unfit input.
-use Rattle.std.specs.Prelude.{ℕ, ◌+◌, ◌*◌, min, List, [], ◌∷◌, ◌++◌, map, Bool, true, false, cond, ◌||◌, length, take, drop, ltb, eqb}
+use Rattle.std.specs.Prelude.{ℕ, ◌+◌, ◌*◌, min, List, [], ◌∷◌, ◌++◌, map, Bool, true, false, cond, not, ◌&&◌, ◌||◌, length, take, drop, ltb, eqb}
 use Rattle.rows.specs.Flat.{width_of}
 use Rattle.fit.specs.Refusal.{refusal, or_refused}
 use Rattle.fit.specs.Rows.{short, strays, misnames}
 use Rattle.index.specs.Index.{column_width}
+use Rattle.index.specs.Column.{over_rank}
 use Rattle.parity.specs.Basis.{basis_of}
 use Rattle.parity.specs.declared.System.{System}
 use Rattle.region.specs.Masks.{decisions, region_of, is_held, is_open}
 use Rattle.region.specs.Calls.{strayed, clashes}
 use Rattle.region.specs.declared.Region.{Region}
 use Rattle.snapshot.specs.Knowledge.{published, overfull_by, unequal, missing}
-use Rattle.snapshot.specs.Touch.{touched_of, over_ranked}
+use Rattle.snapshot.specs.Touch.{touched_of}
 use Rattle.snapshot.specs.declared.Snapshot.{Snapshot}
 use Rattle.inspect.specs.Consequences.{Consequences, consequences}
 use Rattle.inspect.specs.Batch.{Batch, begun, applied}
@@ -48,9 +49,9 @@ lists_short s basis index atoms values =
     ltb basis (min s.rows s.atoms)
     || (ltb index (s.atoms * column_width s.rank) || (ltb atoms s.rank || ltb values s.rank))
 
--- The checks in their order: 10, 13 for the rank, 9, 11, 12, 13, 14, 15, 16; 14 by whether a column has a bit past the rank.
-abbrev pub inspect_over_unfit : Bool → System → Filled → Region → Snapshot → ℕ → ℕ → ℕ
-inspect_over_unfit over s l r known atoms values =
+-- The checks in their order: 10, 13 for the rank, 9, 11, 12, 13, 14 ("not checked where the system is refuted"), 15, 16.
+unfoldable pub inspect_unfit : System → Filled → Region → Snapshot → ℕ → ℕ → ℕ
+inspect_unfit s l r known atoms values =
     refusal (
     (10, overfull_by s r known) ∷
     (13, ltb (min s.rows s.atoms) s.rank) ∷
@@ -58,14 +59,10 @@ inspect_over_unfit over s l r known atoms values =
     (11, strays s.atoms (width_of s.atoms) l.rows l.constants s.rows || strayed r) ∷
     (12, clashes r) ∷
     (13, misnames s.rows l.basis s.rank) ∷
-    (14, over) ∷
+    (14, not s.refuted && over_rank s.rank (column_width s.rank) l.index s.atoms) ∷
     (15, unequal s r known) ∷
     (16, missing r known) ∷
     [])
-
--- .. and by the lent index itself
-unfoldable pub inspect_unfit : System → Filled → Region → Snapshot → ℕ → ℕ → ℕ
-inspect_unfit s l = inspect_over_unfit (over_ranked s l.index) s l
 
 -- A result by its fields: answer, held, cut, forced, region, knowledge.
 abbrev pub told_of : Step → ℕ → ℕ → ℕ → Region → Snapshot → Inspected
@@ -118,13 +115,7 @@ inspected s l r known atoms values =
     (outcome (concluded c r known) (atoms_from c.forced atoms) (values_from c.forced values)))
 
 -- A refused call returns "its number, 0 in every other field, and the region as passed", with knowledge and lists as they were.
-abbrev pub inspect_by : ℕ → System → Filled → Region → Snapshot → List ℕ → List ℕ → Outcome
-inspect_by number s l r known atoms values =
-    or_refused number (inspected s l r known atoms values) (λ number. outcome (told_of (Refused number) 0 0 0 r known) atoms values)
-
 unfoldable pub inspect_of : System → Filled → Region → Snapshot → List ℕ → List ℕ → Outcome
-inspect_of s l r known atoms values = inspect_by (inspect_unfit s l r known (length atoms) (length values)) s l r known atoms values
-
--- The same by whether a column has a bit past the rank, for callers that have asked it before.
-unfoldable pub inspect_over_of : Bool → System → Filled → Region → Snapshot → List ℕ → List ℕ → Outcome
-inspect_over_of over s l r known atoms values = inspect_by (inspect_over_unfit over s l r known (length atoms) (length values)) s l r known atoms values
+inspect_of s l r known atoms values =
+    or_refused (inspect_unfit s l r known (length atoms) (length values)) (inspected s l r known atoms values)
+    (λ number. outcome (told_of (Refused number) 0 0 0 r known) atoms values)

@@ -1,6 +1,6 @@
 // The number under which `inspect` refuses: 10, 13 for the rank, 9, 11, 12, 13 for a basis entry, 14, 15, 16.
 ghost use Rattle.std.specs.Prelude.{◌≡◌, ◌≤◌};
-ghost use Rattle.inspect.specs.Inspect.{filled, lists_short, inspect_over_unfit};
+ghost use Rattle.inspect.specs.Inspect.{filled, lists_short, inspect_unfit};
 
 use parity::System;
 use region::Region;
@@ -32,11 +32,10 @@ pub fn unfit(
     index: &[u64],
     region: Region,
     known: Snapshot,
-    over: bool,
     atoms: usize,
     values: usize,
 ) -> usize
-    ensures { result ≡ inspect_over_unfit over system (filled rows.now constants.now basis.now index.now) region known atoms values }
+    ensures { result ≡ inspect_unfit system (filled rows.now constants.now basis.now index.now) region known atoms values }
 {
     if known.overfull(system, region) {
         return 10;
@@ -61,7 +60,7 @@ pub fn unfit(
     if fit::any_misnames(basis, system.rows, system.rank) {
         return 13;
     }
-    if over {
+    if snapshot::past_rank(system, index) {
         return 14;
     }
     if known.unequal(system, region) {

@@ -5,7 +5,7 @@
 ghost use Rattle.std.specs.Prelude.{◌≡◌};
 ghost use Rattle.region.specs.Masks.{decisions};
 ghost use Rattle.inspect.specs.Batch.{begun, applied};
-ghost use Rattle.inspect.specs.Inspect.{filled, told_of, outcome, answer_of, ended, inspect_over_of, inspect_of};
+ghost use Rattle.inspect.specs.Inspect.{filled, told_of, outcome, answer_of, ended, inspect_of};
 ghost use Rattle.inspect.specs.Steps.{Applicable, forced_in};
 
 use parity::System;
@@ -122,9 +122,8 @@ fn conclude(
     )
 }
 
-// `inspect` for a caller that has asked `snapshot::past_rank` before, as for many inspections of one system: `over` is what it answered.
-pub fn inspect_over(
-    over: bool,
+// Inspects the touched basis rows of a prepared system against a region, once.
+pub fn inspect(
     system: System,
     rows: &[u64],
     constants: &[u8],
@@ -135,7 +134,7 @@ pub fn inspect_over(
     forced_atoms: &mut [usize],
     forced_values: &mut [u8],
 ) -> Inspected
-    ensures { outcome result forced_atoms.new forced_values.new ≡ inspect_over_of over system (filled rows.now constants.now basis.now index.now) region known forced_atoms.old forced_values.old }
+    ensures { outcome result forced_atoms.new forced_values.new ≡ inspect_of system (filled rows.now constants.now basis.now index.now) region known forced_atoms.old forced_values.old }
 {
     let number = checks::unfit(
         system,
@@ -145,7 +144,6 @@ pub fn inspect_over(
         index,
         region,
         known,
-        over,
         forced_atoms.len(),
         forced_values.len(),
     );
@@ -174,33 +172,4 @@ pub fn inspect_over(
         return told(Step::Refuted, 0, 0, forced, region, known);
     }
     conclude(region, known, forced, forced_atoms, forced_values)
-}
-
-// Inspects the touched basis rows of a prepared system against a region, once.
-pub fn inspect(
-    system: System,
-    rows: &[u64],
-    constants: &[u8],
-    basis: &[usize],
-    index: &[u64],
-    region: Region,
-    known: Snapshot,
-    forced_atoms: &mut [usize],
-    forced_values: &mut [u8],
-) -> Inspected
-    ensures { outcome result forced_atoms.new forced_values.new ≡ inspect_of system (filled rows.now constants.now basis.now index.now) region known forced_atoms.old forced_values.old }
-{
-    let over = snapshot::past_rank(system, index);
-    inspect_over(
-        over,
-        system,
-        rows,
-        constants,
-        basis,
-        index,
-        region,
-        known,
-        forced_atoms,
-        forced_values,
-    )
 }

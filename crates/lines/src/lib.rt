@@ -1,8 +1,7 @@
 // The lines of a file's calls: each record of kind 4 to 6 is a call over one region and one knowledge, and adds its line.
 #![tactic(auto)]
 
-ghost use Rattle.std.specs.Prelude.{◌≡◌, ◌≤◌, length};
-ghost use Rattle.snapshot.specs.Touch.{past_rank_of};
+ghost use Rattle.std.specs.Prelude.{◌≤◌, length};
 ghost use Rattle.inspect.specs.Inspect.{filled};
 ghost use Rattle.inspect.specs.Run.{begins};
 ghost use Rattle.format.specs.Starts.{starts};
@@ -59,9 +58,8 @@ fn put_decided(
     }
 }
 
-// An inspection: its line, and region and knowledge as it leaves them. Whether the index has a bit past the rank is asked once for all.
+// An inspection: its line, and region and knowledge as it leaves them.
 fn put_inspected(
-    over: bool,
     system: System,
     rows: &[u64],
     constants: &[u8],
@@ -72,13 +70,11 @@ fn put_inspected(
     out: &mut [u8],
     at: usize,
 ) -> Placed
-    requires { over ≡ past_rank_of system index.now }
     ensures { Called (state_with region known) (inspection system (filled rows.now constants.now basis.now index.now)) out.old at out.new result }
 {
     let mut atoms = [0usize; 512];
     let mut values = [0u8; 512];
-    let inspected = inspect::inspect_over(
-        over,
+    let inspected = inspect::inspect(
         system,
         rows,
         constants,
@@ -103,7 +99,6 @@ fn put_inspected(
 fn put_record(
     file: &[u8],
     o: usize,
-    over: bool,
     system: System,
     rows: &[u64],
     constants: &[u8],
@@ -114,7 +109,7 @@ fn put_record(
     out: &mut [u8],
     at: usize,
 ) -> Placed
-    requires { (over ≡ past_rank_of system index.now) × (at ≤ length out.old) }
+    requires { at ≤ length out.old }
     ensures { Turned file.now system (filled rows.now constants.now basis.now index.now) (state_with region known) o out.old at out.new result }
 {
     let kind = format::short(file, o, 2);
@@ -123,7 +118,7 @@ fn put_record(
     }
     if kind == 5 {
         return put_inspected(
-            over, system, rows, constants, basis, index, region, known, out, at,
+            system, rows, constants, basis, index, region, known, out, at,
         );
     }
     if kind == 6 {
@@ -155,7 +150,6 @@ pub fn put_lines(
 ) -> usize
     ensures { Wrote out.old at (lines_from file.now system (filled rows.now constants.now basis.now index.now) (begins system.atoms) (starts file.now 0)) out.new result }
 {
-    let over = snapshot::past_rank(system, index);
     let fresh = Region::undecided(system.atoms);
     let mut region = fresh.region;
     let mut known = Snapshot::fresh();
@@ -163,7 +157,7 @@ pub fn put_lines(
     let mut o = 0;
     while o < file.len() {
         let done = put_record(
-            file, o, over, system, rows, constants, basis, index, region, known, out, place,
+            file, o, system, rows, constants, basis, index, region, known, out, place,
         );
         place = done.place;
         region = done.region;

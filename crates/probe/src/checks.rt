@@ -1,9 +1,9 @@
 // The number under which `probe` refuses: 10, 13 for the rank, 9, 11, 12, 13 for a basis entry, 15.
 ghost use Rattle.std.specs.Prelude.{◌≡◌};
-ghost use Rattle.region.specs.Masks.{masked};
 ghost use Rattle.probe.specs.Probe.{probe_unfit};
 
 use parity::System;
+use region::Region;
 
 // The number, or 0.
 pub fn unfit(
@@ -11,17 +11,15 @@ pub fn unfit(
     rows: &[u64],
     constants: &[u8],
     basis: &[usize],
-    atoms: usize,
-    held: &[u64; 8],
-    cut: &[u64; 8],
+    region: Region,
 ) -> usize
-    ensures { result ≡ probe_unfit system rows.now constants.now basis.now (masked atoms held.now cut.now) }
+    ensures { result ≡ probe_unfit system rows.now constants.now basis.now region }
 {
     let lent = fit::rows_number(system.atoms, system.rows, rows, constants);
     if lent == 10 {
         return 10;
     }
-    let number = region::masks_number(atoms, held, cut);
+    let number = region.number();
     if number == 10 {
         return 10;
     }
@@ -44,7 +42,7 @@ pub fn unfit(
     if fit::any_misnames(basis, system.rows, system.rank) {
         return 13;
     }
-    if atoms != system.atoms {
+    if region.atoms != system.atoms {
         return 15;
     }
     0

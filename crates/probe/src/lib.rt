@@ -5,7 +5,7 @@ ghost use Rattle.std.specs.Prelude.{◌≡◌, ◌≤◌, length, take};
 ghost use Rattle.std.specs.Int.Count.{ones};
 ghost use Rattle.words.specs.Set.{set_of};
 ghost use Rattle.rows.specs.Decisions.{undecided};
-ghost use Rattle.region.specs.Masks.{masked, decisions};
+ghost use Rattle.region.specs.Masks.{decisions};
 ghost use Rattle.region.specs.Calls.{region_unfit};
 ghost use Rattle.probe.specs.Probe.{told_of, probe_of};
 
@@ -51,14 +51,14 @@ fn size(mask: &[u64], width: usize) -> usize
 }
 
 // "u counts atoms neither held nor cut." No mask has one past the words that the atoms take.
-fn open_count(atoms: usize, held: &[u64; 8], cut: &[u64; 8]) -> usize
-    requires { (region_unfit (masked atoms held.now cut.now) ≡ 0) × (length held.now ≡ 8) × (length cut.now ≡ 8) }
-    ensures { result ≡ undecided (decisions (masked atoms held.now cut.now)) }
+fn open_count(region: Region) -> usize
+    requires { region_unfit region ≡ 0 }
+    ensures { result ≡ undecided (decisions region) }
 {
-    let width = rows::width(atoms);
-    let held_count = size(held, width);
-    let cut_count = size(cut, width);
-    atoms - held_count - cut_count
+    let width = rows::width(region.atoms);
+    let held = size(&region.held, width);
+    let cut = size(&region.cut, width);
+    region.atoms - held - cut
 }
 
 // Whether the open atoms can still come out so that every basis row of a prepared system is met.
@@ -71,16 +71,14 @@ pub fn probe(
 ) -> Probed
     ensures { result ≡ probe_of system rows.now constants.now basis.now region }
 {
-    let held = region.held;
-    let cut = region.cut;
-    let number = checks::unfit(system, rows, constants, basis, region.atoms, &held, &cut);
+    let number = checks::unfit(system, rows, constants, basis, region);
     if number != 0 {
         return told(number, false, 0, 0);
     }
-    let undecided = open_count(region.atoms, &held, &cut);
+    let undecided = open_count(region);
     if system.refuted {
         return told(0, false, undecided, 0);
     }
-    let left = eliminate::eliminate(system, rows, constants, basis, &held, &cut);
+    let left = eliminate::eliminate(system, rows, constants, basis, region);
     told(0, left.sound, undecided, left.kept)
 }

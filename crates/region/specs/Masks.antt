@@ -1,15 +1,11 @@
 -- A region's words, and the decisions that they stand for: "Region. n, held and cut masks."
 use Rattle.std.specs.Prelude.{ℕ, ◌+◌, ◌/◌, ◌^◌, Bool, true, false, cond, length, eqb}
-use mathlib.Core.List.{List, map, zip_with}
+use mathlib.Core.List.{map, zip_with}
 use Rattle.std.proofs.Math.Option.{Option, none, some}
 use Rattle.words.specs.Set.{set_of, low}
 use Rattle.rows.specs.Decisions.{Decisions}
 use Rattle.rows.specs.Flat.{atoms_of, mask_of, unpack}
 use Rattle.region.specs.declared.Region.{Region}
-
--- A region by its parts.
-abbrev pub masked : ℕ → List ℕ → List ℕ → Region
-masked n held cut = record { atoms = n; held = held; cut = cut }
 
 -- What is decided of one atom, by whether it is held and whether it is cut.
 abbrev pub decision : Bool → Bool → Option Bool

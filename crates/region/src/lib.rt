@@ -2,10 +2,10 @@
 // Every call is total: an unfit region, or an atom not below n, is refused with document 01's number and comes back as passed.
 #![tactic(auto)]
 
-ghost use Rattle.std.specs.Prelude.{◌≡◌, cond, not, length, eqb};
+ghost use Rattle.std.specs.Prelude.{◌≡◌, cond, not, eqb};
 ghost use Rattle.std.specs.Int.Bits.{bit_and};
 ghost use Rattle.words.specs.Set.{set_of};
-ghost use Rattle.region.specs.Masks.{masked, next_of};
+ghost use Rattle.region.specs.Masks.{next_of};
 ghost use Rattle.region.specs.Calls.{region_unfit, decide_unfit, undecided_of, hold_of, cut_of};
 
 use rows::Atom;
@@ -80,9 +80,8 @@ pub fn next(mask: &[u64; 8], from: usize) -> usize
 }
 
 // Whether two masks have an atom in common.
-fn meet(left: &[u64; 8], right: &[u64; 8]) -> bool
-    ensures wide { (length left.now ≡ 8) × (length right.now ≡ 8) }
-    ensures common { result ≡ not (eqb (bit_and (set_of left.now) (set_of right.now)) 0) }
+fn meet<'a>(left: &'a [u64; 8], right: &'a [u64; 8]) -> bool
+    ensures { result ≡ not (eqb (bit_and (set_of left.now) (set_of right.now)) 0) }
 {
     let first: &[u64] = left;
     let second: &[u64] = right;
@@ -94,26 +93,6 @@ fn meet(left: &[u64; 8], right: &[u64; 8]) -> bool
         i += 1;
     }
     false
-}
-
-// The number under which a region is refused, or 0, by its atoms and its masks.
-pub fn masks_number(atoms: usize, held: &[u64; 8], cut: &[u64; 8]) -> usize
-    ensures { result ≡ region_unfit (masked atoms held.now cut.now) }
-{
-    let clash = meet(held, cut);
-    if atoms > LIMIT {
-        return 10;
-    }
-    if next(held, atoms) != LIMIT {
-        return 11;
-    }
-    if next(cut, atoms) != LIMIT {
-        return 11;
-    }
-    if clash {
-        return 12;
-    }
-    0
 }
 
 impl Region {
@@ -145,9 +124,21 @@ impl Region {
     pub fn number(self) -> usize
         ensures { result ≡ region_unfit self }
     {
+        if self.atoms > LIMIT {
+            return 10;
+        }
         let held = self.held;
+        if next(&held, self.atoms) != LIMIT {
+            return 11;
+        }
         let cut = self.cut;
-        masks_number(self.atoms, &held, &cut)
+        if next(&cut, self.atoms) != LIMIT {
+            return 11;
+        }
+        if meet(&held, &cut) {
+            return 12;
+        }
+        0
     }
 
     // The number under which a decision on the atom is refused, or 0.

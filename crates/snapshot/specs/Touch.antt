@@ -1,12 +1,12 @@
 -- The basis rows that decisions touch. Place j of a list is ordinal j.
-use Rattle.std.specs.Prelude.{ℕ, zero, suc, ◌*◌, min, List, [], ◌∷◌, Bool, false, not, ◌&&◌, ◌||◌, length, ltb, eqb}
+use Rattle.std.specs.Prelude.{ℕ, zero, suc, ◌*◌, min, List, [], ◌∷◌, Bool, false, not, ◌&&◌, ◌||◌, length, ltb}
 use Rattle.std.specs.Bool.{xor}
 use Rattle.words.specs.Set.{set_of, has}
 use Rattle.rows.specs.Flat.{mask_of, unpack}
 use Rattle.rows.specs.Calls.{part_of}
 use Rattle.fit.specs.Refusal.{refusal, or_refused}
 use Rattle.index.specs.Index.{column_width}
-use Rattle.index.specs.Column.{over_rank, column_unfit}
+use Rattle.index.specs.Column.{over_rank}
 use Rattle.parity.specs.declared.System.{System}
 use Rattle.region.specs.declared.Region.{Region}
 use Rattle.region.specs.Calls.{strayed, clashes}
@@ -40,15 +40,7 @@ touched_of rank index r known =
 unfoldable pub ordinals_of : List Bool → Ordinals
 ordinals_of rows = record { words = unpack 64 8 (mask_of rows) }
 
--- 14, whether some column has a bit from the rank on, "not checked where the system is refuted"
-abbrev pub over_ranked : System → List ℕ → Bool
-over_ranked s index = not s.refuted && over_rank s.rank (column_width s.rank) index s.atoms
-
--- What `past_rank` answers, whatever the index: whether the column of atom 0 is refused with 14.
-abbrev pub past_rank_of : System → List ℕ → Bool
-past_rank_of s index = not s.refuted && eqb (column_unfit index s.atoms s.rank (record { 0 = 0 })) 14
-
--- 10, "13: rank above min(m, n)", "9: .. index n columns", 11 and 12 of the region, 14, 15, 16
+-- 10, "13: rank above min(m, n)", "9: .. index n columns", 11 and 12 of the region, 14 "not checked where the system is refuted", 15, 16
 unfoldable pub touched_unfit : System → List ℕ → Region → Snapshot → ℕ
 touched_unfit s index r known =
     refusal (
@@ -57,7 +49,7 @@ touched_unfit s index r known =
     (9, ltb (length index) (s.atoms * column_width s.rank)) ∷
     (11, strayed r) ∷
     (12, clashes r) ∷
-    (14, over_ranked s index) ∷
+    (14, not s.refuted && over_rank s.rank (column_width s.rank) index s.atoms) ∷
     (15, unequal s r known) ∷
     (16, missing r known) ∷
     [])

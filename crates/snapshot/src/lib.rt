@@ -2,12 +2,13 @@
 // Every call is total: unfit arguments are refused with document 01's number.
 #![tactic(auto)]
 
-ghost use Rattle.std.specs.Prelude.{◌≡◌, ◌%◌, ◌^◌, ◌≤◌, length};
+ghost use Rattle.std.specs.Prelude.{◌≡◌, not, ◌&&◌, ◌%◌, ◌^◌, ◌≤◌, length, eqb};
 ghost use Rattle.words.specs.Set.{set_of, has, subset};
 ghost use Rattle.rows.specs.Flat.{unpack};
+ghost use Rattle.index.specs.Column.{column_unfit};
 ghost use Rattle.snapshot.specs.Knowledge.{fresh, publish_of, overfull_by, unequal, missing};
 ghost use Rattle.snapshot.specs.Steps.{Adds};
-ghost use Rattle.snapshot.specs.Touch.{marks, touched_of, ordinals_of, past_rank_of, touched_unfit, selected_of};
+ghost use Rattle.snapshot.specs.Touch.{marks, touched_of, ordinals_of, touched_unfit, selected_of};
 
 use parity::System;
 use region::Region;
@@ -215,7 +216,7 @@ pub fn select(rank: usize, index: &[u64], region: Region, known: Snapshot) -> Or
 // Whether the index of a system that is not refuted has a bit from the rank on, within the columns of its atoms: false where it has not
 // that many columns, or atoms or rank are above 512.
 pub fn past_rank(system: System, index: &[u64]) -> bool
-    ensures { result ≡ past_rank_of system index.now }
+    ensures { result ≡ (not system.refuted && eqb (column_unfit index.now system.atoms system.rank (record { 0 = 0 })) 14) }
 {
     if system.refuted {
         return false;

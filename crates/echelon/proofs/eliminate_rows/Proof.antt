@@ -24,7 +24,7 @@ loop-holds c =
     let a = start.args in (
       omega arith,
       upto_start a.n a.width a.rows.now a.constants.now a.basis.now a.heads.now a.sources.now
-          (directory_start a.n a.width a.rows.now a.constants.now a.heads.now a.sources.now start.requires.6 start.requires.7 start.requires.8),
+          (directory_start a.n a.width a.rows.now a.constants.now a.heads.now a.sources.now start.requires.7 start.requires.8 start.requires.9),
       λ i. (c.slice_known-1.given i).fits,
       refl,
       refl,
@@ -41,7 +41,9 @@ reduce-row-requires c κs =
     let a = start.args in
     let l = at.loop-t in
     let more = turn.loop-t-test.true in (
-      clean_here a.n a.width l.t a.rows.now a.constants.now a.basis.now l.rows l.constants l.basis l.heads l.sources l.rank l.additions l.invariant.1 (start.requires.5 l.t more),
+      omega (arith, start.requires.0, start.requires.2),
+      omega (arith, start.requires.2),
+      clean_here a.n a.width l.t a.rows.now a.constants.now a.basis.now l.rows l.constants l.basis l.heads l.sources l.rank l.additions l.invariant.1 (start.requires.6 l.t more),
       l.invariant.1.directory,
     )
 
@@ -104,9 +106,9 @@ enter-requires c κs some-head =
     let f = call.reduce_row-row.ensures in
     let atom = (f.pivot some-head).atom in
     let room = pivot_room a.n a.width l.t a.rows.now a.constants.now a.basis.now l.rows l.constants l.basis l.heads l.sources l.rank l.additions l.invariant.1 start.requires.0 _ _ _ _ _ f some-head a.m (more call.before.before.before.before.before.before.before.before.before.before.before.before) in (
-      omega (arith, l.invariant.1.directory.heads_wide),
-      omega (arith, l.invariant.1.directory.sources_wide),
-      omega (arith, start.requires.4, l.invariant.1.entries),
+      omega (arith, l.invariant.1.directory.heads_wide, start.requires.2),
+      omega (arith, l.invariant.1.directory.sources_wide, start.requires.2),
+      omega (arith, start.requires.5, l.invariant.1.entries),
     )
 
 add-t : tie.Need-overflow_add-t invariant-loop decreases-loop
@@ -128,7 +130,7 @@ loop-again c =
     let e = enter.enter-rank.ensures in (
       omega (arith, more call.before.before.before.before.before.before.before.before.before.before.before.before.before.before.before.before.before.before.before),
       rw (e.0, e.1.0, e.1.1.0, e.1.1.1, add-one l.t)
-          (upto_turn a.n a.width l.t a.rows.now a.constants.now a.basis.now l.rows l.constants l.basis l.heads l.sources l.rank l.additions l.invariant.1 start.requires.0 _ _ _ _ _ call.reduce_row-row.ensures (sym else.refutes.ensures ∙ else.if-refutes.false) a.m (more call.before.before.before.before.before.before.before.before.before.before.before.before.before.before.before.before.before.before.before) start.requires.4),
+          (upto_turn a.n a.width l.t a.rows.now a.constants.now a.basis.now l.rows l.constants l.basis l.heads l.sources l.rank l.additions l.invariant.1 start.requires.0 _ _ _ _ _ call.reduce_row-row.ensures (sym else.refutes.ensures ∙ else.if-refutes.false) a.m (more call.before.before.before.before.before.before.before.before.before.before.before.before.before.before.before.before.before.before.before) start.requires.5 (omega (arith, start.requires.2))),
       λ i. (else.slice_known-in-loop-t-1.given i).fits,
       enter.enter-rank.auto.heads ∙ l.invariant.3,
       enter.enter-rank.auto.sources ∙ l.invariant.4,
@@ -158,7 +160,7 @@ returns-2 c =
     let a = start.args in
     let l = at.loop-t in
     let done : l.t ≡ a.m = omega arith in
-    rw (sym done) (upto_end a.n a.width l.t a.rows.now a.constants.now a.basis.now l.rows l.constants l.basis l.heads l.sources l.rank l.additions l.invariant.1 (omega (arith, start.requires.2, ap (λ (k : ℕ). k * a.width) done)) (omega (arith, start.requires.3)) l.invariant.2)
+    rw (sym done) (upto_end a.n a.width l.t a.rows.now a.constants.now a.basis.now l.rows l.constants l.basis l.heads l.sources l.rank l.additions l.invariant.1 (omega (arith, start.requires.3, ap (λ (k : ℕ). k * a.width) done)) (omega (arith, start.requires.4)) l.invariant.2)
 
 pub eliminate_rows_spec : {M : Type 1} → statement M
 eliminate_rows_spec =

@@ -18,15 +18,12 @@ use Rattle.lines.proofs.put_lines.Statement.{statement}
 use Rattle.lines.proofs.put_lines.Tie as tie
 
 abbrev invariant-loop : tie.invariant-loop-o
-invariant-loop file system rows constants basis index out₀ at over region₀ known₀ place₀ o₀ out region known place o =
+invariant-loop file system rows constants basis index out₀ at region₀ known₀ place₀ o₀ out region known place o =
     Onward file system (filled rows constants basis index) (state_with region₀ known₀) o₀ out₀ place₀ (state_with region known) o out place
 
 abbrev decreases-loop : tie.decreases-loop-o
-decreases-loop file system rows constants basis index out₀ at over region₀ known₀ place₀ o₀ out region known place o =
+decreases-loop file system rows constants basis index out₀ at region₀ known₀ place₀ o₀ out region known place o =
     length file - o
-
-past-rank-requires : tie.Need-past_rank-over-requires invariant-loop decreases-loop
-past-rank-requires c κs = search rules
 
 undecided-requires : tie.Need-undecided-fresh-requires invariant-loop decreases-loop
 undecided-requires c κs = search rules
@@ -45,7 +42,7 @@ loop-holds c =
     (omega (arith, call.put-place.ensures.place, wrote_length call.put-place.ensures))
 
 put-record-requires : tie.Need-put_record-done-requires invariant-loop decreases-loop
-put-record-requires c κs = let at = c in (at.past_rank-over.ensures, at.loop-o.invariant.within)
+put-record-requires c κs = c.loop-o.invariant.within
 
 next-requires : tie.Need-next-o-requires invariant-loop decreases-loop
 next-requires c κs = search rules
@@ -89,7 +86,6 @@ put_lines_spec =
     (tie.spec
     invariant-loop
     decreases-loop
-    past-rank-requires
     undecided-requires
     fresh-requires
     put-requires

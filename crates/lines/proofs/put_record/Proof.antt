@@ -66,7 +66,7 @@ returns-4 c =
     let a = short.args in
     let f = filled a.rows.now a.constants.now a.basis.now a.index.now in
     turn_other a.file.now a.system f (state_with a.region a.known) a.o a.out.now a.at short.short-kind.ensures.0
-    c.if-kind-eq4.false c.if-kind-eq5.false c.if-kind-eq6.false short.requires.1
+    c.if-kind-eq4.false c.if-kind-eq5.false c.if-kind-eq6.false short.requires
 
 pub put_record_spec : {M : Type 1} → statement M
 put_record_spec =

@@ -1,6 +1,6 @@
 -- `region::meet` meets its contract: in the words passed the masks have nothing in common.
 use Prim.Native.Nat.{◌-◌, ◌≤◌}
-use mathlib.Core.Path.{◌≡◌, sym, ap}
+use mathlib.Core.Path.{sym, ap}
 use mathlib.Core.Bool.{not}
 use native.Mathlib.Nat.{mul-one}
 use native.Mathlib.Omega.{arith}
@@ -19,13 +19,8 @@ abbrev decreases-loop : tie.decreases-loop-i
 decreases-loop left right first second i₀ i = 8 - i
 
 -- both have eight words
-wide : (c : tie.After-second-1 invariant-loop decreases-loop)
-    → let a = c.args in
-    (length a.left.now ≡ 8) × (length a.right.now ≡ 8)
-wide c = (c.told-left, c.told-right)
-
 same : (c : tie.After-second-1 invariant-loop decreases-loop) → length c.args.left.now ≤ length c.args.right.now
-same c = omega (arith, wide c)
+same c = omega (arith, c.told-left, c.told-right)
 
 loop-holds : tie.Need-loop-i-init invariant-loop decreases-loop
 loop-holds c = (omega arith, sym (mul-one _))
@@ -46,12 +41,10 @@ returns : tie.Need-returns-then-first-i-ne0 invariant-loop decreases-loop
 returns c =
     let at = c in
     let second = at in
-    let a = second.args in (
-      wide second.before.before.before.before.before,
-      sym (ap not (ne_eqb _ 0
-          (common_some 64 a.left.now a.right.now (same second.before.before.before.before.before) at.loop-i.i at.loop-i.invariant.1 (omega (arith, wide second.before.before.before.before.before)) (omega arith)
-          (c.shared_slice_known-1.given at.loop-i.i).fits))),
-    )
+    let a = second.args in
+    sym (ap not (ne_eqb _ 0
+    (common_some 64 a.left.now a.right.now (same second.before.before.before.before.before) at.loop-i.i at.loop-i.invariant.1 (omega (arith, second.told-left)) (omega arith)
+    (c.shared_slice_known-1.given at.loop-i.i).fits)))
 
 add-i : tie.Need-overflow_add-i invariant-loop decreases-loop
 add-i c = search rules
@@ -65,17 +58,15 @@ loop-again c =
     let second = at in
     let a = second.args in (
       omega arith,
-      common_next 64 a.left.now a.right.now (same second.before.before.before.before.before) at.loop-i.i at.loop-i.invariant.1 (omega (arith, wide second.before.before.before.before.before)) c.if-first-i-ne0.false,
+      common_next 64 a.left.now a.right.now (same second.before.before.before.before.before) at.loop-i.i at.loop-i.invariant.1 (omega (arith, second.told-left)) c.if-first-i-ne0.false,
     )
 
 returns-2 : tie.Need-returns invariant-loop decreases-loop
 returns-2 c =
     let at = c in
     let second = at in
-    let a = second.args in (
-      wide second.before.before,
-      sym (ap not (eq-eqb _ 0 (common_empty 64 a.left.now a.right.now (same second.before.before) at.loop-i.i at.loop-i.invariant.1 (omega (arith, wide second.before.before))))),
-    )
+    let a = second.args in
+    sym (ap not (eq-eqb _ 0 (common_empty 64 a.left.now a.right.now (same second.before.before) at.loop-i.i at.loop-i.invariant.1 (omega (arith, second.told-left)))))
 
 pub meet_spec : {M : Type 1} → statement M
 meet_spec =

@@ -10,8 +10,6 @@ use lib.Dec.{ltb}
 use Rattle.fit.specs.Refusal.{refusal}
 use Rattle.fit.specs.Rows.{misnames}
 use Rattle.fit.proofs.Naming.{misnames_all}
-use Rattle.region.specs.declared.Region.{Region}
-use Rattle.region.specs.Masks.{masked}
 use Rattle.region.specs.Calls.{strayed, clashes}
 use Rattle.snapshot.proofs.Chained.{refuses, passes, region_refuses, region_passes}
 use Rattle.probe.specs.Probe.{probe_unfit}
@@ -31,9 +29,6 @@ second c = c.before.before.before
 abbrev third : tie.Else-basis-entries → tie.Else-system-entries
 third c = c.before.before
 
-abbrev region : tie.Start → Region
-region start = masked start.args.atoms start.args.held.now start.args.cut.now
-
 abbrev begun : tie.Else-system-entries → tie.Start
 begun c = (lent (second c)).before.before.before.before
 
@@ -43,20 +38,18 @@ rows-number-requires c κs = search rules
 returns : tie.Need-returns-then-lent-eq10
 returns c =
     let called = c in
-    let start = called in
-    let a = start.args in
-    rows_ten a.system a.rows.now a.constants.now a.basis.now (region start.before.before.before.before.before) called.rows_number-lent.result called.rows_number-lent.ensures c.if-lent-eq10.true
+    let a = called.args in
+    rows_ten a.system a.rows.now a.constants.now a.basis.now a.region called.rows_number-lent.result called.rows_number-lent.ensures c.if-lent-eq10.true
 
-masks-number-requires : tie.Need-masks_number-number-requires
-masks-number-requires c κs = search rules
+number-requires : tie.Need-number-number-requires
+number-requires c κs = search rules
 
 returns-2 : tie.Need-returns-then-number-eq10
 returns-2 c =
-    let number = c.masks_number-number in
+    let number = c.number-number in
     let called = c in
-    let start = called in
-    let a = start.args in
-    region_ten a.system a.rows.now a.constants.now a.basis.now (region start.before.before.before.before.before.before.before) called.rows_number-lent.result called.rows_number-lent.ensures
+    let a = called.args in
+    region_ten a.system a.rows.now a.constants.now a.basis.now a.region called.rows_number-lent.result called.rows_number-lent.ensures
     c.if-lent-eq10.false number.result number.ensures c.if-number-eq10.true
 
 least-requires : tie.Need-least-entries-requires
@@ -66,11 +59,10 @@ returns-3 : tie.Need-returns-then-system-entries
 returns-3 c =
     let least = c in
     let within = least in
-    let number = within.masks_number-number in
+    let number = within.number-number in
     let rows = (lent within.before.before.before).rows_number-lent in
-    let start = (lent within.before.before.before) in
-    let a = start.args in
-    rank_over a.system a.rows.now a.constants.now a.basis.now (region start.before.before.before.before) rows.result rows.ensures within.if-lent-eq10.false
+    let a = (lent within.before.before.before).args in
+    rank_over a.system a.rows.now a.constants.now a.basis.now a.region rows.result rows.ensures within.if-lent-eq10.false
     number.result number.ensures within.if-number-eq10.false
     (ap (λ (k : ℕ). ltb k a.system.rank) (sym least.least-entries.ensures) ∙ lt-ltb _ _ c.if-system-entries.true)
 
@@ -82,22 +74,20 @@ returns-4 : tie.Need-returns-then-lent-eq9
 returns-4 c =
     let at = c in
     let within = second at.before in
-    let number = within.masks_number-number in
+    let number = within.number-number in
     let rows = (lent within).rows_number-lent in
-    let start = begun at.before in
-    let a = start.args in
-    rows_short a.system a.rows.now a.constants.now a.basis.now (region start) rows.result rows.ensures within.if-lent-eq10.false
+    let a = (begun at.before).args in
+    rows_short a.system a.rows.now a.constants.now a.basis.now a.region rows.result rows.ensures within.if-lent-eq10.false
     number.result number.ensures within.if-number-eq10.false (ranked at.before) c.if-lent-eq9.true
 
 returns-5 : tie.Need-returns-then-basis-entries
 returns-5 c =
     let at = c in
     let within = second at.before.before in
-    let number = within.masks_number-number in
+    let number = within.number-number in
     let rows = (lent within).rows_number-lent in
-    let start = begun at.before.before in
-    let a = start.args in
-    basis_short a.system a.rows.now a.constants.now a.basis.now (region start) rows.result rows.ensures within.if-lent-eq10.false
+    let a = (begun at.before.before).args in
+    basis_short a.system a.rows.now a.constants.now a.basis.now a.region rows.result rows.ensures within.if-lent-eq10.false
     number.result number.ensures within.if-number-eq10.false (ranked at.before.before) c.if-lent-eq9.false
     (ap (ltb (length a.basis.now)) (sym at.least-entries.ensures) ∙ lt-ltb _ _ c.if-basis-entries.true)
 
@@ -110,28 +100,25 @@ returns-6 c =
     let fifth = c in
     let at = third fifth.before in
     let within = second at in
-    let number = within.masks_number-number in
+    let number = within.number-number in
     let rows = (lent within).rows_number-lent in
-    let start = begun at in
-    let a = start.args in
-    rows_stray a.system a.rows.now a.constants.now a.basis.now (region start) rows.result rows.ensures within.if-lent-eq10.false
+    let a = (begun at).args in
+    rows_stray a.system a.rows.now a.constants.now a.basis.now a.region rows.result rows.ensures within.if-lent-eq10.false
     number.result number.ensures within.if-number-eq10.false (ranked at) fifth.if-lent-eq9.false (roomy fifth.before) c.if-lent-eq11.true
 
 -- what is left to ask after the rows
 clean : (c : tie.Else-lent-eq11)
-    → let start = begun (third c.before) in
-    let a = start.args in
-    (k : ℕ) → k ≡ refusal ((11, strayed (region start)) ∷ (12, clashes (region start)) ∷ late a.system a.rows.now a.constants.now a.basis.now (region start))
-    → k ≡ probe_unfit a.system a.rows.now a.constants.now a.basis.now (region start)
+    → let a = (begun (third c.before)).args in
+    (k : ℕ) → k ≡ refusal ((11, strayed a.region) ∷ (12, clashes a.region) ∷ late a.system a.rows.now a.constants.now a.basis.now a.region)
+    → k ≡ probe_unfit a.system a.rows.now a.constants.now a.basis.now a.region
 clean c k =
     let fifth = c in
     let at = third fifth.before in
     let within = second at in
-    let number = within.masks_number-number in
+    let number = within.number-number in
     let rows = (lent within).rows_number-lent in
-    let start = begun at in
-    let a = start.args in
-    after_rows a.system a.rows.now a.constants.now a.basis.now (region start) rows.result rows.ensures within.if-lent-eq10.false
+    let a = (begun at).args in
+    after_rows a.system a.rows.now a.constants.now a.basis.now a.region rows.result rows.ensures within.if-lent-eq10.false
     number.result number.ensures within.if-number-eq10.false (ranked at) fifth.if-lent-eq9.false (roomy fifth.before) c.if-lent-eq11.false
 
 returns-7 : tie.Need-returns-then-number-ne0
@@ -139,29 +126,26 @@ returns-7 c =
     let sixth = c in
     let at = third sixth.before.before in
     let within = second at in
-    let number = within.masks_number-number in
+    let number = within.number-number in
     let rows = (lent within).rows_number-lent in
-    let start = begun at in
-    let a = start.args in
+    let a = (begun at).args in
     let few =
-    region_few a.system a.rows.now a.constants.now a.basis.now (region start) rows.result rows.ensures within.if-lent-eq10.false
+    region_few a.system a.rows.now a.constants.now a.basis.now a.region rows.result rows.ensures within.if-lent-eq10.false
     number.result number.ensures within.if-number-eq10.false in
-    clean sixth.before number.result (region_refuses (region start) number.result _ few number.ensures c.if-number-ne0.true)
+    clean sixth.before number.result (region_refuses a.region number.result _ few number.ensures c.if-number-ne0.true)
 
 any-misnames-requires : tie.Need-any_misnames-requires
 any-misnames-requires c κs = search rules
 
 -- .. and after the region
 settled : (c : tie.Else-number-ne0)
-    → let start = begun (third c.before.before) in
-    let a = start.args in
-    (k : ℕ) → k ≡ refusal (late a.system a.rows.now a.constants.now a.basis.now (region start))
-    → k ≡ probe_unfit a.system a.rows.now a.constants.now a.basis.now (region start)
+    → let a = (begun (third c.before.before)).args in
+    (k : ℕ) → k ≡ refusal (late a.system a.rows.now a.constants.now a.basis.now a.region)
+    → k ≡ probe_unfit a.system a.rows.now a.constants.now a.basis.now a.region
 settled c k e =
     let within = second (third c.before.before) in
-    let start = begun (third c.before.before) in
-    let a = start.args in
-    clean c.before k (region_passes (region start) (sym within.masks_number-number.ensures ∙ c.if-number-ne0.false) e)
+    let a = (begun (third c.before.before)).args in
+    clean c.before k (region_passes a.region (sym within.number-number.ensures ∙ c.if-number-ne0.false) e)
 
 -- what `any_misnames` answers
 misnamed : (c : tie.After-any_misnames)
@@ -176,17 +160,17 @@ misnamed c =
 returns-8 : tie.Need-returns-then-any_misnames
 returns-8 c = settled c.before.before 13 (refuses _ 13 _ (sym (misnamed c.before) ∙ c.if-any_misnames.true))
 
-returns-9 : tie.Need-returns-then-atoms-system
+returns-9 : tie.Need-returns-then-region-system
 returns-9 c =
     let eighth = c in
-    settled eighth.before.before.before.before 15
-    (passes _ 13 (sym (misnamed eighth.before.before.before) ∙ eighth.if-any_misnames.false) (refuses _ 15 _ (ap not (ne_eqb _ _ c.if-atoms-system.true))))
+    settled eighth.before.before.before.before.before 15
+    (passes _ 13 (sym (misnamed eighth.before.before.before.before) ∙ eighth.if-any_misnames.false) (refuses _ 15 _ (ap not (ne_eqb _ _ c.if-region-system.true))))
 
 returns-10 : tie.Need-returns
 returns-10 c =
     let eighth = c in
-    settled eighth.before.before.before.before 0
-    (passes _ 13 (sym (misnamed eighth.before.before.before) ∙ eighth.if-any_misnames.false) (passes _ 15 (ap not (eq-eqb _ _ c.if-atoms-system.false)) refl))
+    settled eighth.before.before.before.before.before 0
+    (passes _ 13 (sym (misnamed eighth.before.before.before.before) ∙ eighth.if-any_misnames.false) (passes _ 15 (ap not (eq-eqb _ _ c.if-region-system.false)) refl))
 
 pub unfit_spec : {M : Type 1} → statement M
 unfit_spec =
@@ -194,7 +178,7 @@ unfit_spec =
     (tie.spec
     rows-number-requires
     returns
-    masks-number-requires
+    number-requires
     returns-2
     least-requires
     returns-3
