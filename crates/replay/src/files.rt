@@ -17,7 +17,7 @@ struct Run {
 
 // The text that the library answers, in memory that had 7 everywhere.
 fn text(input: &[u8], tape: Tape, file: &[u8]) -> Tape {
-    let mut out = [7u8; 524352];
+    let mut out = buffer::filled::<524352>(7);
     answer::answer(file, &mut out);
     tape.bytes(input, &out, 7)
 }

@@ -2,6 +2,7 @@
 // `propose`, of `prepare` and of whole files, each kind after the number of its cases.
 #![tactic(auto)]
 
+use std::io;
 use tape::Tape;
 
 mod files;
@@ -47,22 +48,20 @@ fn replay(input: &[u8], kind: usize, start: usize) -> Tally {
     Tally { agreed, asked, at }
 }
 
-fn print(tally: Tally, call: &[u8]) {
-    io::print_decimal(1, tally.agreed as u64);
-    io::write_all(1, b" of ");
-    io::print_decimal(1, tally.asked as u64);
-    io::write_all(1, b" recorded answers of ");
-    io::write_all(1, call);
-    io::write_all(1, b" agree\n");
+fn print(rt: &impl Print, tally: Tally, call: &str) -> io::Result<()> {
+    println!(rt;
+        "{} of {} recorded answers of {call} agree",
+        tally.agreed, tally.asked
+    )
 }
 
-fn main() {
-    let mut memory = [0u8; 500000];
-    let read = io::read_full(0, &mut memory);
+fn main(rt: HostRuntime) -> io::Result<()> {
+    let mut memory = buffer::filled::<500000>(0);
+    let read = buffer::read_full(&mut rt.stdin(), &mut memory)?;
     let input = &memory[..read];
     let tables = replay(input, 0, 0);
-    print(tables, b"propose");
+    print(&rt, tables, "propose")?;
     let systems = replay(input, 1, tables.at);
-    print(systems, b"prepare");
-    print(replay(input, 2, systems.at), b"files");
+    print(&rt, systems, "prepare")?;
+    print(&rt, replay(input, 2, systems.at), "files")
 }

@@ -5,9 +5,11 @@
 ghost use Rattle.std.specs.Prelude.{◌≡◌, [], ◌≤◌, ◌<◌, replicate};
 ghost use Rattle.parity.specs.Prepare.{lent, prepare_unfit};
 
-use check::expect;
+use expected::expect;
 use region::Region;
+use std::io;
 
+mod expected;
 mod table;
 
 // The number that preparation answers when it is lent 512 constants and else no memory: enough for no rows, and for 512 without atoms.
@@ -34,7 +36,7 @@ fn size_number(n: usize, m: usize) -> usize
 }
 
 // Prints what the check says of a file of so many atoms and so many empty rows.
-fn print_checked(atoms: usize, rows: usize)
+fn print_checked(rt: &impl Print, atoms: usize, rows: usize) -> io::Result<()>
     requires { (atoms < 65536) × (rows ≤ 513) }
 {
     let mut file = [0u8; 2571];
@@ -49,29 +51,26 @@ fn print_checked(atoms: usize, rows: usize)
         i += 1;
     }
     let checked = records::check(&file[..6 + rows * 5]);
-    io::print_decimal(1, checked.number as u64);
-    io::write_all(1, b" at ");
-    io::print_decimal(1, checked.offset as u64);
-    io::write_all(1, b"\n");
+    println!(rt; "{} at {}", checked.number, checked.offset)
 }
 
-fn main() {
+fn main(rt: HostRuntime) -> io::Result<()> {
     let words = [0u64; 5];
     // "k=8 wants 4 words."
-    expect(hull::propose(8, &words[..3]).number == 17);
-    expect(hull::propose(8, &words[..4]).number == 0);
-    expect(hull::propose(8, &words[..5]).number == 17);
+    expect(hull::propose(8, &words[..3]).number == 17)?;
+    expect(hull::propose(8, &words[..4]).number == 0)?;
+    expect(hull::propose(8, &words[..5]).number == 17)?;
     // "17: k above 8"
-    expect(hull::propose(9, &words[..4]).number == 17);
+    expect(hull::propose(9, &words[..4]).number == 17)?;
     // "n=512 taken, 513 refused; 512 rows taken, 513 refused"
-    expect(size_number(512, 0) == 0);
-    expect(size_number(513, 0) == 10);
-    expect(size_number(0, 512) == 0);
-    expect(size_number(0, 513) == 10);
-    expect(Region::undecided(512).number == 0);
-    expect(Region::undecided(513).number == 10);
-    print_checked(512, 0);
-    print_checked(513, 0);
-    print_checked(0, 512);
-    print_checked(0, 513);
+    expect(size_number(512, 0) == 0)?;
+    expect(size_number(513, 0) == 10)?;
+    expect(size_number(0, 512) == 0)?;
+    expect(size_number(0, 513) == 10)?;
+    expect(Region::undecided(512).number == 0)?;
+    expect(Region::undecided(513).number == 10)?;
+    print_checked(&rt, 512, 0)?;
+    print_checked(&rt, 513, 0)?;
+    print_checked(&rt, 0, 512)?;
+    print_checked(&rt, 0, 513)
 }

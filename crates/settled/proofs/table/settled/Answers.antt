@@ -1,5 +1,5 @@
 -- The examples are computed.
-use mathlib.Core.Path.{refl}
+use Rattle.std.proofs.Common.{refl}
 use mathlib.Core.List.{zip_with}
 use mathlib.Core.Bool.{xor}
 use Rattle.words.specs.Set.{packed}
@@ -21,12 +21,8 @@ use Rattle.inspect.specs.Batch.{applied}
 use Rattle.inspect.specs.Inspect.{inspect_unfit, inspect_of}
 use Rattle.probe.specs.Elimination.{reduced_by, kept_from}
 use Rattle.probe.specs.Probe.{probe_unfit, probe_of}
-use Rattle.settled.proofs.table.settled.Statement.{statement}
-use Rattle.settled.proofs.table.settled.Tie as tie
+use Rattle.settled.proofs.table.settled.Goals as goal
 
-returns : tie.Need-returns
+pub returns : goal.returns
 unfolding xor zip_with packed row_at atoms_of mask_of unpack allowed_from allowed enter pivots_from hull_from hull_of strays forward eliminated rows_to words_of constants_of index_of incidences_of prepare_unfit prepare_of part_of over_rank decisions_of region_of decide_unfit undecided_of hold_of marks listed touched_of reading_of consequences applied misnames inspect_unfit inspect_of reduced_by kept_from probe_unfit probe_of
 returns c = refl
-
-pub settled-spec : {M : Type 1} → statement M
-settled-spec = tie.close (tie.spec returns)
