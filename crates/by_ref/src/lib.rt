@@ -1,5 +1,5 @@
 // The calls that document 01 asks for behind a reference, for C: the knowledge lent by `&mut`, and the forced list as a lent slice of
-// `Forced`. Each is thin: a covered function above the by-value call does the work, and the call stores what it returns.
+// `Forced`. Each is thin: a function above the by-value call does the work, and the call stores what it returns. `by_ref_c` exports them.
 #![tactic(auto)]
 
 ghost use Rattle.std.specs.Prelude.{◌≡◌, map, ◌≤◌, min, length, take, replicate};
@@ -56,8 +56,7 @@ struct Listed {
 }
 
 // Publishes a region in the very record that was passed, and answers the number under which the region is refused, or 0.
-#[unsafe(no_mangle)]
-pub extern "C" fn worzubil_publish_in(known: &mut Snapshot, region: Region) -> usize
+pub fn worzubil_publish_in(known: &mut Snapshot, region: Region) -> usize
     ensures { publication result known.new ≡ publish_of known.old region }
 {
     let old = *known;
@@ -113,8 +112,7 @@ fn inspect_split(
 }
 
 // Inspects, with the knowledge in the very record that was passed.
-#[unsafe(no_mangle)]
-pub extern "C" fn worzubil_inspect_in(
+pub fn worzubil_inspect_in(
     system: System,
     rows: &[u64],
     constants: &[u8],
@@ -193,8 +191,7 @@ fn write(list: &mut [Forced], atoms: [usize; 512], values: [u8; 512], count: usi
 }
 
 // Inspects, with the forced list as one lent list of entries.
-#[unsafe(no_mangle)]
-pub extern "C" fn worzubil_inspect_list(
+pub fn worzubil_inspect_list(
     system: System,
     rows: &[u64],
     constants: &[u8],

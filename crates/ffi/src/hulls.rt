@@ -7,15 +7,13 @@ ghost use Rattle.ffi.specs.Answers.{row_number};
 use hull::{Hull, Proposal};
 use rows::Source;
 
-#[unsafe(no_mangle)]
-pub extern "C" fn worzubil_propose(k: usize, forbidden: &[u64]) -> Proposal
+pub fn worzubil_propose(k: usize, forbidden: &[u64]) -> Proposal
     ensures { result ≡ proposal_of limit k forbidden.now }
 {
     hull::propose(k, forbidden)
 }
 
-#[unsafe(no_mangle)]
-pub extern "C" fn worzubil_write(
+pub fn worzubil_write(
     hull: Hull,
     names: &[usize],
     width: usize,

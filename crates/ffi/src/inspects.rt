@@ -96,55 +96,43 @@ fn inspected_answer(inspected: Inspected) -> Inspection
 }
 
 // A region of n atoms, all open, or number 10.
-#[unsafe(no_mangle)]
-pub extern "C" fn worzubil_undecided(n: usize) -> NewRegion
+pub fn worzubil_undecided(n: usize) -> NewRegion
     ensures { result ≡ undecided_of n }
 {
     Region::undecided(n)
 }
 
-#[unsafe(no_mangle)]
-pub extern "C" fn worzubil_hold(region: Region, atom: usize) -> Decision
+pub fn worzubil_hold(region: Region, atom: usize) -> Decision
     ensures { result ≡ decided_answer (hold_of region (atom_number atom)) }
 {
     decided_answer(region.hold(Atom(atom)))
 }
 
-#[unsafe(no_mangle)]
-pub extern "C" fn worzubil_cut(region: Region, atom: usize) -> Decision
+pub fn worzubil_cut(region: Region, atom: usize) -> Decision
     ensures { result ≡ decided_answer (cut_of region (atom_number atom)) }
 {
     decided_answer(region.cut(Atom(atom)))
 }
 
-#[unsafe(no_mangle)]
-pub extern "C" fn worzubil_fresh() -> Snapshot
+pub fn worzubil_fresh() -> Snapshot
     ensures { result ≡ fresh }
 {
     Snapshot::fresh()
 }
 
-#[unsafe(no_mangle)]
-pub extern "C" fn worzubil_publish(known: Snapshot, region: Region) -> Published
+pub fn worzubil_publish(known: Snapshot, region: Region) -> Published
     ensures { result ≡ publish_of known region }
 {
     known.publish(region)
 }
 
-#[unsafe(no_mangle)]
-pub extern "C" fn worzubil_touched(
-    system: System,
-    index: &[u64],
-    region: Region,
-    known: Snapshot,
-) -> Selected
+pub fn worzubil_touched(system: System, index: &[u64], region: Region, known: Snapshot) -> Selected
     ensures { result ≡ selected_of system index.now region known }
 {
     snapshot::touched(system, index, region, known)
 }
 
-#[unsafe(no_mangle)]
-pub extern "C" fn worzubil_inspect(
+pub fn worzubil_inspect(
     system: System,
     rows: &[u64],
     constants: &[u8],

@@ -1,6 +1,7 @@
-// The public calls for C, each with the equation of the call it exports; include/worzubil.h declares them. Those of `words` and `rows`
-// stand here, those of `hull` and `embed` in hulls.rt, those of `parity` and `index` in prepares.rt, those of `region`, `snapshot` and
-// `inspect` in inspects.rt, that of `probe` in probes.rt, those on files in files.rt.
+// The public calls in the form in which C has them, each with the equation of the call below it: a library, since `by_ref` stands on it.
+// `ffi_c` exports them under these names, and include/worzubil.h declares them. Those of `words` and `rows` stand here, those of `hull`
+// and `embed` in hulls.rt, those of `parity` and `index` in prepares.rt, those of `region`, `snapshot` and `inspect` in inspects.rt, that of
+// `probe` in probes.rt, those on files in files.rt.
 // A row's number, a place of the basis and an atom are plain numbers here. specs/Answers.antt says how each answer is told.
 #![tactic(auto)]
 
@@ -144,8 +145,7 @@ fn overlap_answer(overlap: rows::Overlap) -> Answer
     }
 }
 
-#[unsafe(no_mangle)]
-pub extern "C" fn worzubil_locate(atom: usize) -> Located
+pub fn worzubil_locate(atom: usize) -> Located
     ensures { result ≡ located_answer (place_of atom) }
 {
     let place = words::locate(atom);
@@ -155,111 +155,96 @@ pub extern "C" fn worzubil_locate(atom: usize) -> Located
     }
 }
 
-#[unsafe(no_mangle)]
-pub extern "C" fn worzubil_popcount(word: u64) -> u32
+pub fn worzubil_popcount(word: u64) -> u32
     ensures { result ≡ ones word }
 {
     words::popcount(word)
 }
 
 // One step of the visit of a word's set bits, from the lowest up.
-#[unsafe(no_mangle)]
-pub extern "C" fn worzubil_next(word: u64) -> Step
+pub fn worzubil_next(word: u64) -> Step
     ensures { result ≡ next_answer (next_of (set_bits word)) }
 {
     next_answer(words::bits(word).next())
 }
 
-#[unsafe(no_mangle)]
-pub extern "C" fn worzubil_contains(words: &[u64], atom: usize) -> bool
+pub fn worzubil_contains(words: &[u64], atom: usize) -> bool
     ensures { result ≡ has (set_of words.now) atom }
 {
     words::contains(words, atom)
 }
 
-#[unsafe(no_mangle)]
-pub extern "C" fn worzubil_insert(words: &mut [u64], atom: usize) -> bool
+pub fn worzubil_insert(words: &mut [u64], atom: usize) -> bool
     ensures room { result ≡ ltb (atom / 64) (length words.old) }
     ensures words { words.new ≡ inserted words.old atom }
 {
     words::insert(words, atom)
 }
 
-#[unsafe(no_mangle)]
-pub extern "C" fn worzubil_clear(words: &mut [u64])
+pub fn worzubil_clear(words: &mut [u64])
     ensures { words.new ≡ replicate (length words.old) 0 }
 {
     words::clear(words)
 }
 
-#[unsafe(no_mangle)]
-pub extern "C" fn worzubil_union_assign(left: &mut [u64], right: &[u64]) -> bool
+pub fn worzubil_union_assign(left: &mut [u64], right: &[u64]) -> bool
     ensures equal { result ≡ eqb (length left.old) (length right.now) }
     ensures words { left.new ≡ merged bit_or left.old right.now }
 {
     words::union_assign(left, right)
 }
 
-#[unsafe(no_mangle)]
-pub extern "C" fn worzubil_xor_assign(left: &mut [u64], right: &[u64]) -> bool
+pub fn worzubil_xor_assign(left: &mut [u64], right: &[u64]) -> bool
     ensures equal { result ≡ eqb (length left.old) (length right.now) }
     ensures words { left.new ≡ merged bit_xor left.old right.now }
 {
     words::xor_assign(left, right)
 }
 
-#[unsafe(no_mangle)]
-pub extern "C" fn worzubil_is_subset_of(left: &[u64], right: &[u64]) -> Answer
+pub fn worzubil_is_subset_of(left: &[u64], right: &[u64]) -> Answer
     ensures { result ≡ verdict_answer (subset_of left.now right.now) }
 {
     verdict_answer(words::is_subset_of(left, right))
 }
 
-#[unsafe(no_mangle)]
-pub extern "C" fn worzubil_intersection_parity(left: &[u64], right: &[u64]) -> Answer
+pub fn worzubil_intersection_parity(left: &[u64], right: &[u64]) -> Answer
     ensures { result ≡ verdict_answer (parity_of left.now right.now) }
 {
     verdict_answer(words::intersection_parity(left, right))
 }
 
-#[unsafe(no_mangle)]
-pub extern "C" fn worzubil_intersection_count(left: &[u64], right: &[u64]) -> Answer
+pub fn worzubil_intersection_count(left: &[u64], right: &[u64]) -> Answer
     ensures { result ≡ counted_answer (intersection_of left.now right.now) }
 {
     counted_answer(words::intersection_count(left, right))
 }
 
-#[unsafe(no_mangle)]
-pub extern "C" fn worzubil_count(words: &[u64]) -> Answer
+pub fn worzubil_count(words: &[u64]) -> Answer
     ensures { result ≡ counted_answer (count_of words.now) }
 {
     counted_answer(words::count(words))
 }
 
-#[unsafe(no_mangle)]
-pub extern "C" fn worzubil_first(words: &[u64]) -> Answer
+pub fn worzubil_first(words: &[u64]) -> Answer
     ensures { result ≡ found_answer (first_of words.now) }
 {
     found_answer(words::first(words))
 }
 
-#[unsafe(no_mangle)]
-pub extern "C" fn worzubil_width(atoms: usize) -> usize
+pub fn worzubil_width(atoms: usize) -> usize
     ensures { result ≡ width_of atoms }
 {
     rows::width(atoms)
 }
 
-#[unsafe(no_mangle)]
-pub extern "C" fn worzubil_source_at(basis: &[usize], place: usize) -> Answer
+pub fn worzubil_source_at(basis: &[usize], place: usize) -> Answer
     ensures { result ≡ entry_answer (source_of basis.now (basis_place place)) }
 {
     entry_answer(rows::source_at(basis, rows::Ordinal(place)))
 }
 
 // The words of a row, told by their place: a row that does not lie within has none.
-#[unsafe(no_mangle)]
-pub extern "C" fn worzubil_row(rows: &[u64], width: usize, number: usize) -> Span
+pub fn worzubil_row(rows: &[u64], width: usize, number: usize) -> Span
     ensures place { result ≡ span_of width rows.now (row_number number) }
     ensures words { take result.length (drop result.start rows.now) ≡ row_of width rows.now (row_number number) }
 {
@@ -279,39 +264,25 @@ pub extern "C" fn worzubil_row(rows: &[u64], width: usize, number: usize) -> Spa
     }
 }
 
-#[unsafe(no_mangle)]
-pub extern "C" fn worzubil_lowest_atom(rows: &[u64], width: usize, number: usize) -> Answer
+pub fn worzubil_lowest_atom(rows: &[u64], width: usize, number: usize) -> Answer
     ensures { result ≡ lowest_answer (lowest_of width rows.now (row_number number)) }
 {
     lowest_answer(rows::lowest_atom(rows, width, rows::Source(number)))
 }
 
-#[unsafe(no_mangle)]
-pub extern "C" fn worzubil_overlap_parity(
-    rows: &[u64],
-    width: usize,
-    number: usize,
-    mask: &[u64],
-) -> Answer
+pub fn worzubil_overlap_parity(rows: &[u64], width: usize, number: usize, mask: &[u64]) -> Answer
     ensures { result ≡ parity_answer (overlap_parity_of width rows.now (row_number number) mask.now) }
 {
     parity_answer(rows::overlap_parity(rows, width, rows::Source(number), mask))
 }
 
-#[unsafe(no_mangle)]
-pub extern "C" fn worzubil_overlap_count(
-    rows: &[u64],
-    width: usize,
-    number: usize,
-    mask: &[u64],
-) -> Answer
+pub fn worzubil_overlap_count(rows: &[u64], width: usize, number: usize, mask: &[u64]) -> Answer
     ensures { result ≡ overlap_answer (overlap_count_of width rows.now (row_number number) mask.now) }
 {
     overlap_answer(rows::overlap_count(rows, width, rows::Source(number), mask))
 }
 
-#[unsafe(no_mangle)]
-pub extern "C" fn worzubil_add(
+pub fn worzubil_add(
     rows: &mut [u64],
     constants: &mut [u8],
     width: usize,

@@ -8,8 +8,7 @@ use crate::Span;
 use parity::Prepared;
 use rows::Atom;
 
-#[unsafe(no_mangle)]
-pub extern "C" fn worzubil_prepare(
+pub fn worzubil_prepare(
     n: usize,
     m: usize,
     rows: &mut [u64],
@@ -25,8 +24,7 @@ pub extern "C" fn worzubil_prepare(
 }
 
 // The words of a column, told by their place: a refused one has none.
-#[unsafe(no_mangle)]
-pub extern "C" fn worzubil_column(index: &[u64], n: usize, rank: usize, atom: usize) -> Span
+pub fn worzubil_column(index: &[u64], n: usize, rank: usize, atom: usize) -> Span
     ensures place { result ≡ column_span_of index.now n rank (atom_number atom) }
     ensures words { take result.length (drop result.start index.now) ≡ wanted_column index.now n rank (atom_number atom) }
 {
@@ -46,8 +44,7 @@ pub extern "C" fn worzubil_column(index: &[u64], n: usize, rank: usize, atom: us
     }
 }
 
-#[unsafe(no_mangle)]
-pub extern "C" fn worzubil_column_number(index: &[u64], n: usize, rank: usize, atom: usize) -> usize
+pub fn worzubil_column_number(index: &[u64], n: usize, rank: usize, atom: usize) -> usize
     ensures { result ≡ column_unfit index.now n rank (atom_number atom) }
 {
     index::column_number(index, n, rank, Atom(atom))

@@ -6,8 +6,7 @@ use parity::System;
 use probe::Probed;
 use region::Region;
 
-#[unsafe(no_mangle)]
-pub extern "C" fn worzubil_probe(
+pub fn worzubil_probe(
     system: System,
     rows: &[u64],
     constants: &[u8],
