@@ -1,5 +1,6 @@
-/* The calls of the library for C, proved in crates/ffi and, where a record or a list of entries is lent, in crates/by_ref; link the
- * archives that `rt staticlib ffi` and `rt staticlib by_ref` write, or the one that has what is called.
+/* The calls of the library for C, proved in crates/ffi and, where a record or a list of entries is lent, in crates/by_ref, and exported by
+ * crates/ffi_c and crates/by_ref_c; link target/staticlib/libffi.a and libby_ref.a, which `tests/archives` builds, or the one that has what
+ * is called.
  *
  * A set is an array of 64-bit words: atom a is bit a % 64 of word a / 64. Rows lie one after the other in one array: row r of
  * width w is the words r * w to r * w + w - 1, and its constant is byte r of the constants.
@@ -364,7 +365,7 @@ typedef struct {
  * out: WORZUBIL_ROOM(file_length) bytes, else 9 and nothing is written. */
 worzubil_answered worzubil_answer_file(const uint8_t *file, size_t file_length, uint8_t *out, size_t out_length);
 
-/* ---- knowledge and forced list where the caller keeps them; of the archive that `rt staticlib by_ref` writes */
+/* ---- knowledge and forced list where the caller keeps them; of the archive libby_ref.a */
 
 /* worzubil_publish in the very record that is passed. Its number is answered: 0, or 10, 11 or 12, and the record stays as it is.
  * known: one record, not NULL, of which nothing else is lent to the call. */

@@ -1,4 +1,4 @@
-//! Links the archives of crates/ffi and crates/by_ref, from the folder WORZUBIL_LIB or else from target/staticlib of the repository.
+//! Links the archives of crates/ffi_c and crates/by_ref_c, from the folder WORZUBIL_LIB or else from target/staticlib of the repository.
 use std::env;
 use std::path::{Path, PathBuf};
 use std::process::exit;
@@ -20,7 +20,7 @@ fn main() {
         let archive = folder.join(format!("lib{name}.a"));
         println!("cargo:rerun-if-changed={}", archive.display());
         if !archive.is_file() {
-            eprintln!("{} is not there: run `rt staticlib ffi` and `rt staticlib by_ref` first, or set WORZUBIL_LIB", archive.display());
+            eprintln!("{} is not there: run tests/archives of the repository first, or set WORZUBIL_LIB", archive.display());
             exit(1);
         }
         println!("cargo:rustc-link-lib=static={name}");
