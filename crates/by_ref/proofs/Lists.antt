@@ -34,15 +34,6 @@ pub one_more : (ts vs : List ℕ) (i : ℕ) (xs : List Forced) → i < length ts
     → set (written ts vs i xs) i (entry ts vs i) ≡ written ts vs (i + 1) xs
 one_more ts vs i xs a b c = suc_step ts vs i xs a b c ∙ ap (λ (k : ℕ). written ts vs k xs) (sym (add-one i))
 
--- the list stays as long as it was
-pub as_long : (ts vs : List ℕ) (i : ℕ) (xs : List Forced) → i ≤ length ts → i ≤ length vs → i ≤ length xs → length (written ts vs i xs) ≡ length xs
-unfolding zip_with
-as_long ts vs zero xs a b c = refl
-as_long [] vs (suc i) xs a b c = absurd (omega arith)
-as_long (t ∷ ts) [] (suc i) xs a b c = absurd (omega arith)
-as_long (t ∷ ts) (v ∷ vs) (suc i) [] a b c = absurd (omega arith)
-as_long (t ∷ ts) (v ∷ vs) (suc i) (x ∷ xs) a b c = ap suc (as_long ts vs i xs (omega arith) (omega arith) (omega arith))
-
 -- its atoms and its values
 pub atoms_are : (ts vs : List ℕ) (i : ℕ) (xs : List Forced) → i ≤ length ts → i ≤ length vs → i ≤ length xs
     → map atom_of (written ts vs i xs) ≡ take i ts ++ drop i (map atom_of xs)

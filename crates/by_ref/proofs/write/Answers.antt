@@ -1,6 +1,6 @@
 -- `by_ref::write` meets its contract: a turn writes one entry more.
-use Rattle.std.proofs.Common.{rules, ◌≡◌, ap, sym, ◌∙◌, ◌<◌, arith, length, zero-le, slice_set}
-use Rattle.by_ref.proofs.Lists.{entry, none, one_more, as_long}
+use Rattle.std.proofs.Common.{rules, ◌≡◌, arith, length, zero-le}
+use Rattle.by_ref.proofs.Lists.{none, one_more}
 use Rattle.by_ref.proofs.write.Goals as goal
 
 pub loop-i-init : goal.loop-i-init
@@ -9,8 +9,7 @@ loop-i-init c = (zero-le, none c.args.atoms c.args.values c.args.list.now)
 pub loop-i-preserved : goal.loop-i-preserved
 loop-i-preserved c =
     let atoms : length c.args.atoms ≡ 512 = search rules in
-    let values : length c.args.values ≡ 512 = search rules in
-    (
+    let values : length c.args.values ≡ 512 = search rules in (
       omega arith,
       rw c.loop-i.invariant.1 (one_more c.args.atoms c.args.values c.loop-i.i c.args.list.now (omega (arith, c.requires.1)) (omega (arith, c.requires.1)) (omega (arith, c.requires.0))),
     )

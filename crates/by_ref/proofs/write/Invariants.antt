@@ -1,5 +1,5 @@
 -- `by_ref::write`: the entries before place i are written.
-use Rattle.std.proofs.Common.{◌-◌, ◌≡◌, ◌≤◌, length}
+use Rattle.std.proofs.Common.{◌-◌, ◌≡◌, ◌≤◌}
 use Rattle.by_ref.specs.Steps.{written}
 use Rattle.by_ref.proofs.write.Given as goal
 
