@@ -1,5 +1,4 @@
 -- `records::early_fault` meets its contract: each fault stops the checks.
-use lib.ListN.{length}
 use Rattle.record.proofs.Chain.{stop, pass}
 use borrow.Author.Rules.{rules}
 use Rattle.records.proofs.early_fault.Statement.{statement}
