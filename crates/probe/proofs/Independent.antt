@@ -16,7 +16,8 @@ use Rattle.hull.proofs.Only.{get_d_zeros}
 use Rattle.probe.specs.Elimination.{eliminated}
 use Rattle.probe.specs.Promises.{KeptIndependent}
 use Rattle.probe.specs.Steps.{pivots}
-use Rattle.probe.proofs.Pivoted.{has_sum, kept_triangular}
+use Rattle.probe.proofs.Undecided.{has_sum}
+use Rattle.probe.proofs.Pivoted.{kept_triangular}
 
 -- what would be false if it were true
 never : (b : Bool) → (b ≡ true → true ≡ false) → b ≡ false

@@ -1,5 +1,6 @@
 -- The laws behind the promises and the contracts of this crate.
 pub mod Meanings
+pub mod Undecided
 pub mod Pivoted
 pub mod Refusals
 pub mod Tallies
