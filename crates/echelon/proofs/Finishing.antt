@@ -1,5 +1,5 @@
--- The turns of `reduce_row`: one word after another, until a word has an atom without a pivot or the row is empty.
-use Prim.Native.Nat.{ℕ, suc, ◌+◌, ◌*◌, ◌/◌, ◌%◌, ◌^◌, ◌≤◌, ◌<◌}
+-- The turns of `first_word` and `reduce_from`: one word after another, until a word has an atom without a pivot or the row is empty.
+use Prim.Native.Nat.{ℕ, ◌+◌, ◌*◌, ◌/◌, ◌%◌, ◌^◌, ◌≤◌, ◌<◌}
 use mathlib.Core.Path.{◌≡◌, refl, sym, ap, ◌∙◌}
 use mathlib.Core.List.{List, [], ◌∷◌, ◌++◌}
 use mathlib.Core.Bool.{true}
@@ -20,7 +20,7 @@ use Rattle.rows.proofs.Rowwise.{atoms_none}
 use Rattle.echelon.specs.Forward.{empty, find, reduced}
 use Rattle.echelon.specs.Eliminate.{rows_to}
 use Rattle.echelon.specs.Promises.{Lowest}
-use Rattle.echelon.specs.Steps.{Clean, OnlyRow, Directory, head_of, Reduced, Finished}
+use Rattle.echelon.specs.Steps.{Clean, OnlyRow, EmptyTo, Directory, head_of, Reduced, Finished}
 use Rattle.echelon.proofs.Lows.{find_none, empty_none}
 use Rattle.echelon.proofs.Replaced.{row_at_length, row_kept, at_kept, clean_kept, rows_kept, only_start, only_join}
 use Rattle.echelon.proofs.Onwards.{onward_start, onward_join, onward_few, onward_end}
@@ -58,17 +58,22 @@ unfolding packed
 packed_zero k [] = omega (arith, mod-eq_of_lt (pow_pos k))
 packed_zero k (x ∷ l) = ap (λ (n : ℕ). n * 2 ^ k + x % 2 ^ k) (packed_zero k l)
 
-below_next : (l : List ℕ) (i : ℕ) → i < length l → get_or l i 0 ≡ 0 → set_of (take i l) ≡ 0 → set_of (take (suc i) l) ≡ 0
-below_next l i h e below =
-    ap set_of (take-suc l i 0 h) ∙ ap (λ (v : ℕ). set_of (take i l ++ (v ∷ []))) e ∙ packed_zero 64 (take i l) ∙ below
+pub empty_start : (w t : ℕ) (ws : List ℕ) → EmptyTo w t ws 0
+unfolding packed
+empty_start w t ws = refl
+
+pub empty_next : (w t : ℕ) (ws : List ℕ) (i : ℕ) → t * w + w ≤ length ws → i < w → get_or (row w ws t) i 0 ≡ 0 → EmptyTo w t ws i → EmptyTo w t ws (i + 1)
+empty_next w t ws i room h e below =
+    let l = row w ws t in
+    ap (λ (j : ℕ). set_of (take j l)) (add-one i) ∙ ap set_of (take-suc l i 0 (omega (arith, row_length w ws t room)))
+    ∙ ap (λ (v : ℕ). set_of (take i l ++ (v ∷ []))) e ∙ packed_zero 64 (take i l) ∙ below
 
 module _ (n w t : ℕ) (ws cs : List ℕ) where
-  pub reduced_start : Clean n w t ws cs → Reduced n w t 0 ws cs ws cs 0
-  unfolding packed
-  reduced_start clean = record {
+  pub reduced_start : (i : ℕ) → Clean n w t ws cs → EmptyTo w t ws i → Reduced n w t i ws cs ws cs 0
+  reduced_start i clean below = record {
     only = only_start w t ws cs;
     clean = clean;
-    below = refl;
+    below = below;
     onward = onward_start (rows_to n w ws cs t) (row_at n w ws cs t);
   }
 
@@ -91,7 +96,7 @@ module _ (n w t : ℕ) (ws cs : List ℕ) where
     reduced_next h e = record {
       only = so.only;
       clean = so.clean;
-      below = ap (λ (j : ℕ). set_of (take j (row w ws' t))) (add-one i) ∙ below_next (row w ws' t) i (omega (arith, wide)) e so.below;
+      below = empty_next w t ws' i so.clean.words h e so.below;
       onward = so.onward;
     }
 

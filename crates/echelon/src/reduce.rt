@@ -83,20 +83,39 @@ fn reduce_word(
     }
 }
 
-// Reduces a row until its lowest atom has no pivot among the earlier rows, or it is empty.
-pub fn reduce_row(
+// The first word of a row that is not empty, or `width`.
+fn first_word(rows: &[u64], width: usize, number: Source) -> usize
+    requires { number.0 * width + width ≤ length rows.now }
+    ensures within { result ≤ width }
+    ensures before { EmptyTo width number.0 rows.now result }
+    ensures there { result < width → 0 < get_or rows.now (number.0 * width + result) 0 }
+{
+    let start = number.0 * width;
+    let mut i = 0;
+    while i < width {
+        if rows[start + i] != 0 {
+            return i;
+        }
+        i += 1;
+    }
+    i
+}
+
+// Reduces a row whose words before word `first` are empty, until its lowest atom has no pivot among the earlier rows, or it is empty.
+fn reduce_from(
     rows: &mut [u64],
     constants: &mut [u8],
     n: usize,
     width: usize,
     number: Source,
+    first: usize,
     heads: &[u64],
     sources: &[usize],
 ) -> LeftRow
-    requires { (width ≤ 8) × (n ≤ width * 64) × Clean n width number.0 rows.old constants.old × Directory n width number.0 rows.old constants.old heads.now sources.now }
+    requires { (width ≤ 8) × (first ≤ width) × Clean n width number.0 rows.old constants.old × EmptyTo width number.0 rows.old first × Directory n width number.0 rows.old constants.old heads.now sources.now }
     ensures { Finished n width number.0 rows.old constants.old rows.new constants.new result.head result.lowest.0 result.additions }
 {
-    let mut i = 0;
+    let mut i = first;
     let mut additions = 0;
     while i < width {
         let left = reduce_word(rows, constants, n, width, number, i, heads, sources);
@@ -115,4 +134,32 @@ pub fn reduce_row(
         lowest: Atom(0),
         additions: additions,
     }
+}
+
+// Reduces a row until its lowest atom has no pivot among the earlier rows, or it is empty. Where it has none from the start, nothing is
+// added.
+pub fn reduce_row(
+    rows: &mut [u64],
+    constants: &mut [u8],
+    n: usize,
+    width: usize,
+    number: Source,
+    heads: &[u64],
+    sources: &[usize],
+) -> LeftRow
+    requires { (width ≤ 8) × (n ≤ width * 64) × Clean n width number.0 rows.old constants.old × Directory n width number.0 rows.old constants.old heads.now sources.now }
+    ensures { Finished n width number.0 rows.old constants.old rows.new constants.new result.head result.lowest.0 result.additions }
+{
+    let first = first_word(rows, width, number);
+    if first < width {
+        let word = rows[number.0 * width + first];
+        if head_of(heads, first, word) == 0 {
+            return LeftRow {
+                head: word,
+                lowest: Atom(first * 64 + u64::trailing_zeros(word) as usize),
+                additions: 0,
+            };
+        }
+    }
+    reduce_from(rows, constants, n, width, number, first, heads, sources)
 }

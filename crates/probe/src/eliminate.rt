@@ -167,8 +167,86 @@ fn eliminate_rows(
     }
 }
 
-// The basis rows of a system over what a region leaves open. The open atoms are those that are not held and not cut; no row has an atom
-// from n on. Memory is taken by what the rows need, since it is cleared first.
+// The same in memory of its own: as much as the rows need, since it is cleared first.
+fn eliminate_open(
+    n: usize,
+    rank: usize,
+    rows: &[u64],
+    constants: &[u8],
+    basis: &[usize],
+    held: &[u64; 8],
+    free: &[u64; 8],
+) -> Eliminated
+    requires { Named n rank rows.now constants.now basis.now × (n ≤ 512) × (rank ≤ n) × Wide held.now free.now }
+    ensures { (p : Decisions) → Masked n p held.now free.now → result ≡ told (eliminated p (basis_of n rows.now constants.now (take rank basis.now))) }
+{
+    if n <= 8 {
+        let mut few = [0u64; 8];
+        let mut few_constants = [0u8; 8];
+        let mut few_pivots = [0usize; 8];
+        return eliminate_rows(
+            n,
+            rank,
+            rows,
+            constants,
+            basis,
+            held,
+            free,
+            &mut few,
+            &mut few_constants,
+            &mut few_pivots,
+        );
+    }
+    if n <= 64 {
+        let mut some = [0u64; 64];
+        let mut some_constants = [0u8; 64];
+        let mut some_pivots = [0usize; 64];
+        return eliminate_rows(
+            n,
+            rank,
+            rows,
+            constants,
+            basis,
+            held,
+            free,
+            &mut some,
+            &mut some_constants,
+            &mut some_pivots,
+        );
+    }
+    let mut left_constants = [0u8; 512];
+    let mut pivots = [0usize; 512];
+    if rank * rows::width(n) <= 512 {
+        let mut many = [0u64; 512];
+        return eliminate_rows(
+            n,
+            rank,
+            rows,
+            constants,
+            basis,
+            held,
+            free,
+            &mut many,
+            &mut left_constants,
+            &mut pivots,
+        );
+    }
+    let mut left = [0u64; 4096];
+    eliminate_rows(
+        n,
+        rank,
+        rows,
+        constants,
+        basis,
+        held,
+        free,
+        &mut left,
+        &mut left_constants,
+        &mut pivots,
+    )
+}
+
+// The basis rows of a system over what a region leaves open: the atoms that are not held and not cut; no row has an atom from n on.
 pub fn eliminate(
     system: System,
     rows: &[u64],
@@ -183,42 +261,7 @@ pub fn eliminate(
     let mut free = [0xffff_ffff_ffff_ffffu64; 8];
     words::xor_assign(&mut free, &region.held);
     words::xor_assign(&mut free, &region.cut);
-    if system.atoms <= 64 {
-        let mut few = [0u64; 64];
-        let mut few_constants = [0u8; 64];
-        let mut few_pivots = [0usize; 64];
-        return eliminate_rows(
-            system.atoms,
-            system.rank,
-            rows,
-            constants,
-            basis,
-            &held,
-            &free,
-            &mut few,
-            &mut few_constants,
-            &mut few_pivots,
-        );
-    }
-    let mut left_constants = [0u8; 512];
-    let mut pivots = [0usize; 512];
-    if system.rank * rows::width(system.atoms) <= 512 {
-        let mut some = [0u64; 512];
-        return eliminate_rows(
-            system.atoms,
-            system.rank,
-            rows,
-            constants,
-            basis,
-            &held,
-            &free,
-            &mut some,
-            &mut left_constants,
-            &mut pivots,
-        );
-    }
-    let mut left = [0u64; 4096];
-    eliminate_rows(
+    eliminate_open(
         system.atoms,
         system.rank,
         rows,
@@ -226,8 +269,5 @@ pub fn eliminate(
         basis,
         &held,
         &free,
-        &mut left,
-        &mut left_constants,
-        &mut pivots,
     )
 }

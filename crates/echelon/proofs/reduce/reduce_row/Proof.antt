@@ -1,161 +1,117 @@
--- `reduce_row` meets its contract: after i words the row is `Reduced` from word i on.
-use Prim.Native.Nat.{◌+◌, ◌-◌, ◌*◌, ◌^◌, ◌≤◌, ◌<◌}
+-- `reduce_row` meets its contract: where the lowest atom has no pivot the row is left as it is, else `reduce_from` reduces it.
+use Prim.Native.Nat.{ℕ, ◌+◌, ◌*◌, ◌^◌, ◌<◌}
 use mathlib.Core.Path.{sym, ◌∙◌}
 use native.Mathlib.Omega.{arith}
-use lib.Count.{count_trailing_zeros}
-use Rattle.words.proofs.Lowest.{trailing_form}
-use Rattle.echelon.specs.Steps.{Reduced}
-use Rattle.echelon.proofs.Turns.{row_word}
-use Rattle.echelon.proofs.Finishing.{directory_kept, reduced_start, reduced_join, reduced_next, reduced_few, finished_empty, finished_pivot}
+use lib.ListN.{get_or}
+use lib.Count.{count_trailing_zeros, trailing_le}
+use Rattle.echelon.proofs.Turns.{row_word, turn_start}
+use Rattle.echelon.proofs.Looks.{turn_below}
+use Rattle.echelon.proofs.Finishing.{reduced_start, finished_pivot}
 use borrow.Author.Rules.{rules}
 use Rattle.echelon.proofs.reduce.reduce_row.Statement.{statement}
 use Rattle.echelon.proofs.reduce.reduce_row.Tie as tie
 
-abbrev invariant-loop : tie.invariant-loop-i
-invariant-loop rows₀ constants₀ n width number heads sources i₀ additions₀ rows constants i additions =
-    (i ≤ width) × Reduced n width number.0 i rows₀ constants₀ rows constants additions
+first-word-requires : tie.Need-first_word-first-requires
+first-word-requires c κs = search rules
 
-abbrev decreases-loop : tie.decreases-loop-i
-decreases-loop rows₀ constants₀ n width number heads sources i₀ additions₀ rows constants i additions = width - i
+mul-word : tie.Need-overflow_mul-word
+mul-word c = search rules
 
-loop-holds : tie.Need-loop-i-init invariant-loop decreases-loop
-loop-holds c =
-    let start = c in
-    let a = start.args in
-    (omega arith, reduced_start a.n a.width a.number.0 a.rows.now a.constants.now start.requires.2)
+add-word : tie.Need-overflow_add-word
+add-word c = search rules
 
-abbrev start_of : (c : tie.At-loop-i invariant-loop decreases-loop) → tie.Start invariant-loop decreases-loop
-start_of c = c.before.before.before.before.before
+mul-word-2 : tie.Need-offset_bounds-rows-number
+mul-word-2 c = search rules
 
-reduce-word-requires : tie.Need-reduce_word-left-requires invariant-loop decreases-loop
-reduce-word-requires c κs =
-    let turn = c in
-    let at = turn in
-    let a = (start_of at.before.before.before).args in
-    let l = at.loop-i in
-    let so = l.invariant.1 in (
-      (start_of at.before.before.before).requires.0,
-      turn.loop-i-test.true,
-      so.clean,
-      so.below,
-      directory_kept a.n a.width a.number.0 a.rows.now a.constants.now l.rows l.constants a.heads.now a.sources.now so.only (start_of at.before.before.before).requires.3,
-    )
+slice-read-word : tie.Need-bounds-rows-number
+slice-read-word c = search rules
 
--- what a turn leaves
-after : (c : tie.After-reduce_word-left invariant-loop decreases-loop)
-    → let at = c in
-    let a = (start_of at.before.before.before.before).args in
-    Reduced a.n a.width a.number.0 at.loop-i.i a.rows.now a.constants.now c.reduce_word-left.new.rows c.reduce_word-left.new.constants (at.loop-i.additions + c.reduce_word-left.result.additions)
-after c =
-    let at = c in
-    let a = (start_of at.before.before.before.before).args in
-    let l = at.loop-i in
-    reduced_join a.n a.width a.number.0 a.rows.now a.constants.now l.i l.rows l.constants l.additions l.invariant.1 _ _ _ c.reduce_word-left.ensures.0
+-- ---- the first word has an atom
 
-few : (c : tie.After-reduce_word-left invariant-loop decreases-loop)
-    → let at = c in
-    at.loop-i.additions + c.reduce_word-left.result.additions ≤ (start_of at.before.before.before.before).args.n
-few c =
-    let at = c in
-    let a = (start_of at.before.before.before.before).args in
-    reduced_few a.n a.width a.number.0 a.rows.now a.constants.now at.loop-i.i _ _ _ (after c)
+abbrev call_of : (c : tie.After-slice_known-then-first-width-1) → tie.After-first_word-first
+call_of c = c.before.before.before
 
-add-additions : tie.Need-overflow_add-additions invariant-loop decreases-loop
-add-additions c = omega (arith, few c.before.before.before.before.before)
+abbrev start_of : (c : tie.After-slice_known-then-first-width-1) → tie.Start
+start_of c = (call_of c).before.before.before.before.before
 
--- ---- a word with an atom that has no pivot
+abbrev word_of : (c : tie.After-slice_known-then-first-width-1) → ℕ
+word_of c = get_or (start_of c).args.rows.now ((start_of c).args.number.0 * (start_of c).args.width + (call_of c).first_word-first.result) 0
 
-word_fits : (c : tie.After-struct_known-then-left-ne0-1 invariant-loop decreases-loop)
-    → c.reduce_word-left.result.word < 2 ^ 64
-word_fits c =
-    let call = c in
-    let at = call in
-    let a = (start_of at.before.before.before.before.before.before.before.before.before.before.before.before).args in
-    let inside = call.loop-i-test.true in
-    rw (call.reduce_word-left.ensures.1.0 ∙ row_word a.width a.number.0 call.reduce_word-left.new.rows at.loop-i.i inside)
-    (c.slice_known-in-loop-i-1.given (a.number.0 * a.width + at.loop-i.i)).fits
+inside : (c : tie.After-slice_known-then-first-width-1) → (call_of c).first_word-first.result < (start_of c).args.width
+inside c = c.if-first-width.true
 
-word_some : (c : tie.After-struct_known-then-left-ne0-1 invariant-loop decreases-loop)
-    → 0 < c.reduce_word-left.result.word
-word_some c = omega (arith, c.if-left-ne0.true)
+word_fits : (c : tie.After-slice_known-then-first-width-1) → word_of c < 2 ^ 64
+word_fits c = (c.slice_known-then-first-width-1.given ((start_of c).args.number.0 * (start_of c).args.width + (call_of c).first_word-first.result)).fits
 
-below : (c : tie.After-struct_known-then-left-ne0-1 invariant-loop decreases-loop)
-    → count_trailing_zeros 64 c.reduce_word-left.result.word < 64
-below c = (trailing_form 64 _ (word_some c) (word_fits c)).below
+word_some : (c : tie.After-slice_known-then-first-width-1) → 0 < word_of c
+word_some c = (call_of c).first_word-first.ensures.1.1 (inside c)
 
-mul-t16 : tie.Need-overflow_mul-result invariant-loop decreases-loop
-mul-t16 c = search rules
+-- its lowest one is below n
+lowest : (c : tie.After-slice_known-then-first-width-1) → (call_of c).first_word-first.result * 64 + count_trailing_zeros 64 (word_of c) < (start_of c).args.n
+lowest c =
+    let a = (start_of c).args in
+    let first = (call_of c).first_word-first.result in
+    let same = row_word a.width a.number.0 a.rows.now first (inside c) in
+    let begun = turn_start a.n a.width a.number.0 first a.rows.now a.constants.now (inside c) (start_of c).requires.2 (call_of c).first_word-first.ensures.1.0 (rw same (word_fits c)) in
+    rw (sym same) (turn_below begun (rw same (word_fits c)) (rw same (word_some c)))
 
-cast-t18 : tie.Need-overflow_cast-result invariant-loop decreases-loop
-cast-t18 c = omega (arith, below c)
+head-of-requires : tie.Need-head_of-requires
+head-of-requires c κs = omega (arith, inside c, (start_of c).requires.3.heads_wide)
 
-add-t19 : tie.Need-overflow_add-result invariant-loop decreases-loop
-add-t19 c =
-    let at = c in
-    omega (arith, below c, (start_of at.before.before.before.before.before.before.before.before.before.before.before.before).requires.0)
+-- ---- that one has no pivot
 
-same_length : tie.Need-shape_of-rows-then-left-ne0 invariant-loop decreases-loop
-same_length c = (after c.before.before.before.before.before.before.before.before).only.words
+mul-t19 : tie.Need-overflow_mul-result
+mul-t19 c = omega (arith, lowest c.before.before)
 
-same-length-2 : tie.Need-shape_of-constants-then-left-ne0 invariant-loop decreases-loop
-same-length-2 c = (after c.before.before.before.before.before.before.before.before).only.constants
+cast-t21 : tie.Need-overflow_cast-result
+cast-t21 c = omega (arith, trailing_le 64 (word_of c.before.before))
 
-returns : tie.Need-returns-then-left-ne0 invariant-loop decreases-loop
+add-t22 : tie.Need-overflow_add-result
+add-t22 c = omega (arith, lowest c.before.before)
+
+same_length : tie.Need-shape_of-rows-then-head_of-eq0
+same_length c = search rules
+
+returns : tie.Need-returns-then-head_of-eq0
 returns c =
-    let call = c in
-    let at = call in
-    let a = (start_of at.before.before.before.before.before.before.before.before.before.before.before.before).args in
-    let e = call.reduce_word-left.ensures in
-    finished_pivot a.n a.width a.number.0 a.rows.now a.constants.now at.loop-i.i _ _ _ (after call.before.before.before.before.before.before.before.before) a.heads.now a.sources.now (start_of at.before.before.before.before.before.before.before.before.before.before.before.before).requires.3 call.loop-i-test.true _ e.1.0 (word_fits c) (word_some c) e.1.1
+    let read = c in
+    let start = start_of read.before.before in
+    let a = start.args in
+    let first = (call_of read.before.before).first_word-first.result in
+    let so = reduced_start a.n a.width a.number.0 a.rows.now a.constants.now first start.requires.2 (call_of read.before.before).first_word-first.ensures.1.0 in
+    finished_pivot a.n a.width a.number.0 a.rows.now a.constants.now first _ _ _ so a.heads.now a.sources.now start.requires.3 (inside read.before.before) _
+    (sym (row_word a.width a.number.0 a.rows.now first (inside read.before.before))) (word_fits read.before.before) (word_some read.before.before) (sym c.head_of.ensures ∙ c.if-head_of-eq0.true)
 
--- ---- the next word
+-- ---- every other row
 
-add-i : tie.Need-overflow_add-i invariant-loop decreases-loop
-add-i c = search rules
+reduce-from-requires : tie.Need-reduce_from-requires
+reduce-from-requires c κs = search rules
 
-loop-less : tie.Need-loop-i-smaller invariant-loop decreases-loop
-loop-less c = search rules
+same-length-2 : tie.Need-shape_of-rows
+same-length-2 c = search rules
 
-loop-again : tie.Need-loop-i-preserved invariant-loop decreases-loop
-loop-again c =
-    let call = c in
-    let at = call in
-    let a = (start_of at.before.before.before.before.before.before.before.before.before.before.before).args in
-    let inside = call.loop-i-test.true in
-    (omega arith, reduced_next a.n a.width a.number.0 a.rows.now a.constants.now at.loop-i.i _ _ _ (after call.before.before.before.before.before.before.before) inside (sym call.reduce_word-left.ensures.1.0 ∙ c.if-left-ne0.false))
+same-length-3 : tie.Need-shape_of-constants
+same-length-3 c = search rules
 
--- ---- the whole row
-
-same-length-3 : tie.Need-shape_of-rows invariant-loop decreases-loop
-same-length-3 c = c.loop-i.invariant.1.only.words
-
-same-length-4 : tie.Need-shape_of-constants invariant-loop decreases-loop
-same-length-4 c = c.loop-i.invariant.1.only.constants
-
-returns-2 : tie.Need-returns invariant-loop decreases-loop
-returns-2 c =
-    let at = c in
-    let a = (start_of at.before).args in
-    finished_empty a.n a.width a.number.0 a.rows.now a.constants.now at.loop-i.i at.loop-i.rows at.loop-i.constants at.loop-i.additions at.loop-i.invariant.1 c.loop-i-test.false
+returns-2 : tie.Need-returns
+returns-2 c = search rules
 
 pub reduce_row_spec : {M : Type 1} → statement M
 reduce_row_spec =
     tie.close
     (tie.spec
-    invariant-loop
-    decreases-loop
-    loop-holds
-    reduce-word-requires
-    add-additions
-    mul-t16
-    cast-t18
-    add-t19
+    first-word-requires
+    mul-word
+    add-word
+    mul-word-2
+    slice-read-word
+    head-of-requires
+    mul-t19
+    cast-t21
+    add-t22
     same_length
-    same-length-2
     returns
-    add-i
-    loop-less
-    loop-again
+    reduce-from-requires
+    same-length-2
     same-length-3
-    same-length-4
     returns-2)
