@@ -6,4 +6,5 @@ pub mod Systems
 pub mod Refusals
 pub mod Lengths
 pub mod Fits
+pub mod Taken
 pub mod Written

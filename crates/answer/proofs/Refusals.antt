@@ -1,111 +1,121 @@
--- Number and offset of a refusal: at most 8, and at most 65536.
-use Prim.Native.Nat.{ℕ, zero, suc, ◌+◌, ◌≤◌, ◌<◌}
-use mathlib.Core.Path.{sym, subst}
-use mathlib.Core.List.{List}
-use mathlib.Core.Bool.{Bool, true, false, ◌&&◌}
+-- The offset of a refusal is at most 65536.
+use Rattle.std.proofs.Common.{ℕ, zero, suc, ◌+◌, ◌≤◌, ◌<◌, List, length, leb, ltb, eqb, ◌&&◌, Bool, true, false, Option, Some, Result, Ok, Err, sym, subst, arith}
 use native.Mathlib.Decide.{dec_le}
-use native.Mathlib.Omega.{arith}
 use borrow.Author.Tests.{lt-leb}
-use lib.ListN.{length}
-use lib.Dec.{eqb, leb, ltb}
+use Rattle.words.specs.Set.{odd}
 use Rattle.hull.specs.Propose as hull
 use Rattle.fit.specs.Rows.{limit}
-use Rattle.format.specs.Format.{length_at, body_at, end_at, next_at, kind_at, count_at, constant_at, row_atoms, k_at, table_atoms, decided_at, value_at}
+use Rattle.format.specs.declared.Kind.{Kind}
+use Rattle.format.specs.declared.Kind.TheVariants.{Atoms, Row, Table, Decide, Inspect, Probe}
+use Rattle.format.specs.declared.UnknownKind.{UnknownKind}
+use Rattle.format.specs.Kind.{kind_of}
+use Rattle.format.specs.Format.{length_at, kind_at, body_at, end_at, next_at, count_at, constant_at, row_atoms, k_at, table_atoms, decided_at, value_at}
 use Rattle.format.specs.Starts.{starts}
 use Rattle.format.proofs.Offsets.{starts_cons, starts_nil, next_after}
-use Rattle.record.specs.Fault.{no_fault, unless, or_else}
-use Rattle.record.specs.Form.{length_fault, group_of, follows, kind_fault, table_size, fit_size, table_size_fault, size_fault}
-use Rattle.record.specs.Fields.{good_atoms, rising_atoms, count_fault, atoms_fault, row_fault, decision_fault, range_fault, rising_fault}
-use Rattle.records.specs.Rows.{exact_at, rows_at}
-use Rattle.records.specs.Check.{fault_at, nothing_seen, seen_after, refused_for, check_from, file_limit, file_fault, check_of}
+use Rattle.record.specs.Fault.{unless, ◌>>=◌, ◌>>◌}
+use Rattle.record.specs.Form.{length_check, group_of, follows, kind_check, table_size, table_size_check, size_check}
+use Rattle.record.specs.Fields.{all_below, rises, range_check, rising_check}
 use Rattle.record.specs.declared.Fault.{Fault}
+use Rattle.record.specs.declared.FaultKind.{FaultKind}
+use Rattle.record.specs.declared.FaultKind.TheVariants.{Length, Order, Size, Range, Rising, Inexact, Rows, TooLong}
+use Rattle.record.specs.declared.form.Group.{Group}
+use Rattle.records.specs.Rows.{exact_at, rows_at}
+use Rattle.records.specs.Check.{nothing_seen, atoms_after, step_of, check_from, file_limit, check_of}
 use Rattle.records.specs.declared.Seen.{Seen}
-use Rattle.records.specs.declared.Checked.{Checked}
-use Rattle.answer.proofs.Choices.{chosen}
 
--- a fault that is told in few bytes
-record Small (f : Fault) : Type 0 where
-  number : f.number ≤ 8
-  offset : f.offset ≤ 65536
+-- a fault, if there is one, at an offset that is told in few bytes
+abbrev NearFault : {A : Type 0} → Result A Fault → Type 0
+NearFault (Ok a) = Unit {0}
+NearFault (Err fault) = fault.offset ≤ 65536
 
-pub record SmallCheck (c : Checked) : Type 0 where
-  pub number : c.number ≤ 8
-  pub offset : c.offset ≤ 65536
+pub record Near {A : Type 0} (r : Result A Fault) : Type 0 where
+  pub offset : NearFault r
 
-none_small : Small no_fault
-none_small = record { number = omega arith; offset = omega arith }
+near_ok : {A : Type 0} (a : A) → Near (Ok a)
+near_ok a = record { offset = tt }
 
-unless_small : (t : Bool) (k o : ℕ) → k ≤ 8 → o ≤ 65536 → Small (unless t k o)
-unless_small true k o h i = none_small
-unless_small false k o h i = record { number = h; offset = i }
+module _ {B : Type 0} where
+  near_on : {A : Type 0} {r : Result A Fault} {f : A → Result B Fault} → Near r → ((a : A) → Near (f a)) → Near (r >>= f)
+  near_on {r = Ok a} h k = k a
+  near_on {r = Err fault} h k = record { offset = h.offset }
 
-either_small : (f g : Fault) → Small f → Small g → Small (or_else f g)
-either_small f g a b = chosen Small (eqb f.number 0) b a
+  near_then : {c : Result (Unit {0}) Fault} {r : Result B Fault} → Near c → Near r → Near (c >> r)
+  near_then {c = Ok a} h k = k
+  near_then {c = Err fault} h k = record { offset = h.offset }
 
 -- the checks of one record
 module _ (file : List ℕ) (o : ℕ) (near : o ≤ 65536) where
-  -- the check of a number at most 8
-  checked : (t : Bool) (k : ℕ) → k ≤ 8 → Small (unless t k o)
-  checked t k h = unless_small t k o h near
+  tested : (t : Bool) (kind : FaultKind) → Near (unless t kind o)
+  tested true kind = near_ok tt
+  tested false kind = record { offset = near }
 
-  table_small : Small (table_size_fault file o)
-  unfolding table_size_fault
-  table_small =
-      either_small _ _ (checked (leb 1 (body_at file o)) 3 (omega arith))
-      (either_small _ _ (checked (leb (k_at file o) hull.limit) 4 (omega arith)) (checked (eqb (body_at file o) (table_size (k_at file o))) 3 (omega arith)))
+  kind_near : (before : Option Group) (r : Result Kind UnknownKind) → Near (kind_check before r o)
+  unfolding kind_check
+  kind_near before (Ok kind) = near_then (tested (follows before (group_of kind)) Order) (near_ok kind)
+  kind_near before (Err unknown) = record { offset = near }
 
-  range_small : (kind n : ℕ) → Small (range_fault file kind n o)
-  unfolding range_fault count_fault row_fault atoms_fault decision_fault
-  range_small kind n =
-      let four : (t : Bool) → Small (unless t 4 o) = λ t. checked t 4 (omega arith) in
-      let names : (atoms : List ℕ) → Small (unless (eqb (good_atoms n atoms) (length atoms)) 4 o) = λ atoms. four (eqb (good_atoms n atoms) (length atoms)) in
-      chosen Small (eqb kind 1) (four (leb (count_at file o) limit))
-      (chosen Small (eqb kind 2) (either_small _ _ (four (leb (constant_at file o) 1)) (names (row_atoms file o)))
-      (chosen Small (eqb kind 3) (names (table_atoms file o))
-      (chosen Small (eqb kind 4) (either_small _ _ (four (ltb (decided_at file o) n)) (four (leb (value_at file o) 1))) none_small)))
+  size_near : (kind : Kind) → Near (size_check file kind o)
+  unfolding size_check table_size_check
+  size_near Atoms = tested (eqb (body_at file o) 2) Size
+  size_near Row = tested (odd (body_at file o)) Size
+  size_near Table =
+      near_then (tested (leb 1 (body_at file o)) Size)
+      (near_then (tested (leb (k_at file o) hull.limit) Range) (tested (eqb (body_at file o) (table_size (k_at file o))) Size))
+  size_near Decide = tested (eqb (body_at file o) 3) Size
+  size_near Inspect = tested (eqb (body_at file o) 0) Size
+  size_near Probe = tested (eqb (body_at file o) 0) Size
 
-  fault_small : (seen : Seen) → Small (fault_at file seen o)
-  unfolding fault_at length_fault kind_fault size_fault rising_fault
-  fault_small seen =
-      let kind = kind_at file o in
-      either_small _ _ (checked (leb (o + 2) (length file) && (leb 2 (length_at file o) && leb (end_at file o) (length file))) 1 (omega arith))
-      (either_small _ _ (checked (follows seen.group (group_of kind)) 2 (omega arith))
-      (either_small _ _ (chosen Small (eqb kind 3) table_small (checked (fit_size kind (body_at file o)) 3 (omega arith)))
-      (either_small _ _ (range_small kind seen.atoms)
-      (either_small _ _ (chosen Small (eqb kind 3) (checked (eqb (rising_atoms 0 (table_atoms file o)) (k_at file o)) 5 (omega arith)) none_small)
-      (either_small _ _ (checked (exact_at file kind o) 6 (omega arith)) (checked (leb (seen.rows + rows_at file kind o) limit) 7 (omega arith)))))))
+  range_near : (kind : Kind) (n : ℕ) → Near (range_check file kind n o)
+  unfolding range_check
+  range_near Atoms n = tested (leb (count_at file o) limit) Range
+  range_near Row n = near_then (tested (leb (constant_at file o) 1) Range) (tested (all_below n (row_atoms file o)) Range)
+  range_near Table n = tested (all_below n (table_atoms file o)) Range
+  range_near Decide n = near_then (tested (ltb (decided_at file o) n) Range) (tested (leb (value_at file o) 1) Range)
+  range_near Inspect n = near_ok tt
+  range_near Probe n = near_ok tt
+
+  rising_near : (kind : Kind) → Near (rising_check file kind o)
+  unfolding rising_check
+  rising_near Atoms = near_ok tt
+  rising_near Row = near_ok tt
+  rising_near Table = tested (rises 0 (table_atoms file o)) Rising
+  rising_near Decide = near_ok tt
+  rising_near Inspect = near_ok tt
+  rising_near Probe = near_ok tt
+
+  step_near : (seen : Seen) → Near (step_of file seen o)
+  unfolding step_of length_check
+  step_near seen =
+      near_then (tested (leb (o + 2) (length file) && (leb 2 (length_at file o) && leb (end_at file o) (length file))) Length)
+      (near_on (kind_near seen.group (kind_of (kind_at file o))) (λ kind.
+      near_then (size_near kind)
+      (near_then (range_near kind seen.atoms)
+      (near_then (rising_near kind)
+      (near_on (near_then (tested (exact_at file o) Inexact) (near_ok (rows_at file o))) (λ more.
+      near_on (near_then (tested (leb (seen.rows + more) limit) Rows) (near_ok (seen.rows + more))) (λ rows.
+      near_ok (record { group = Some (group_of kind); atoms = atoms_after file kind seen.atoms o; rows = rows }))))))))
 
 -- of all records
 module _ (file : List ℕ) (few : length file ≤ 65536) where
-  from_small : (fuel o : ℕ) (seen : Seen) → length file ≤ o + fuel → SmallCheck (check_from file seen (starts file o))
+  from_near : (fuel o : ℕ) (seen : Seen) → length file ≤ o + fuel → Near (check_from file seen (starts file o))
   unfolding check_from
-  from_small zero o seen h =
-      subst (λ (os : List ℕ). SmallCheck (check_from file seen os)) (sym (starts_nil file o (omega arith))) (record { number = omega arith; offset = omega arith })
-  from_small (suc fuel) o seen h = by (dec_le (length file) o) (from_small fuel)
+  from_near zero o seen h = subst (λ (os : List ℕ). Near (check_from file seen os)) (sym (starts_nil file o (omega arith))) (near_ok _)
+  from_near (suc fuel) o seen h = by (dec_le (length file) o) (from_near fuel)
     where
-      by : Dec (length file ≤ o) → ((o : ℕ) (seen : Seen) → length file ≤ o + fuel → SmallCheck (check_from file seen (starts file o)))
-          → SmallCheck (check_from file seen (starts file o))
-      by (yes past) rest =
-          subst (λ (os : List ℕ). SmallCheck (check_from file seen os)) (sym (starts_nil file o past)) (record { number = omega arith; offset = omega arith })
+      by : Dec (length file ≤ o) → ((o : ℕ) (seen : Seen) → length file ≤ o + fuel → Near (check_from file seen (starts file o))) → Near (check_from file seen (starts file o))
+      by (yes past) rest = subst (λ (os : List ℕ). Near (check_from file seen os)) (sym (starts_nil file o past)) (near_ok _)
       by (no z) rest =
           let within : o < length file = omega arith in
-          let bad = fault_small file o (omega arith) seen in
-          subst (λ (os : List ℕ). SmallCheck (check_from file seen os)) (sym (starts_cons file o within))
-          (chosen SmallCheck (eqb (fault_at file seen o).number 0)
-          (rest (next_at file o) (seen_after file seen o) (omega (arith, next_after file o within)))
-          (record { number = bad.number; offset = bad.offset }))
+          subst (λ (os : List ℕ). Near (check_from file seen os)) (sym (starts_cons file o within))
+          (near_on (step_near file o (omega arith) seen)
+          (λ next. rest (next_at file o) next (omega (arith, next_after file o within))))
 
-pub check_small : (file : List ℕ) → SmallCheck (check_of file)
+pub check_near : (file : List ℕ) → Near (check_of file)
 unfolding check_of
-check_small file = by (dec_le (length file) 65536)
+check_near file = by (dec_le (length file) file_limit)
   where
-    refused : SmallCheck (refused_for (file_fault file))
-    refused =
-        let bad = either_small _ _ (unless_small (leb (length file) file_limit) 8 file_limit (omega arith) (omega arith)) (unless_small (leb 1 (length file)) 2 0 (omega arith) (omega arith)) in
-        record { number = bad.number; offset = bad.offset }
-
-    by : Dec (length file ≤ 65536) → SmallCheck (check_of file)
-    by (yes few) = chosen SmallCheck (eqb (file_fault file).number 0) (from_small file few (length file) 0 nothing_seen (omega arith)) refused
-    by (no z) =
-        let over : file_limit < length file = omega arith in
-        rw (lt-leb (length file) file_limit over) (record { number = omega arith; offset = omega arith })
+    by : Dec (length file ≤ file_limit) → Near (check_of file)
+    by (yes few) =
+        near_then (tested file file_limit (omega arith) (leb (length file) file_limit) TooLong)
+        (near_then (tested file 0 (omega arith) (leb 1 (length file)) Order) (from_near file few (length file) 0 nothing_seen (omega arith)))
+    by (no z) = let over : file_limit < length file = omega arith in rw (lt-leb (length file) file_limit over) (record { offset = omega arith })

@@ -1,4 +1,4 @@
--- The numbers that an inspection and a probe answer are at most 512, for every system, memory and region.
+-- The numbers that an inspection and a probe answer are at most 512, for every system, memory and region that is not refused.
 use Prim.Native.Nat.{ℕ, ◌+◌, ◌≤◌, min}
 use mathlib.Core.Path.{◌≡◌}
 use mathlib.Core.List.{List, [], ◌∷◌, map}
@@ -9,6 +9,7 @@ use borrow.Author.Tests.{ltb-false}
 use lib.ListN.{length, get_or, take}
 use lib.Dec.{ltb, eqb}
 use Rattle.rows.specs.Decisions.{Decisions, undecided}
+use Rattle.std.specs.Prelude.{Ok}
 use Rattle.fit.specs.Rows.{limit, overfull}
 use Rattle.fit.proofs.Among.{or_none}
 use Rattle.fit.proofs.Fitting.{passed}
@@ -22,13 +23,13 @@ use Rattle.snapshot.specs.Knowledge.{overfull_by}
 use Rattle.snapshot.specs.declared.Snapshot.{Snapshot}
 use Rattle.snapshot.proofs.Chosen.{touched_length}
 use Rattle.inspect.specs.Batch.{Batch, begun, forced_on, next, applied}
-use Rattle.inspect.specs.Inspect.{Filled, Outcome, found, ended, inspect_unfit, inspect_of}
+use Rattle.inspect.specs.Inspect.{Filled, Outcome, found, ended, inspect_check, inspected}
 use Rattle.inspect.specs.declared.Inspected.{Inspected}
 use Rattle.inspect.proofs.Inspecting.{forced_few}
-use Rattle.probe.specs.Probe.{probe_unfit, probe_of}
+use Rattle.probe.specs.Probe.{probe_check, probed}
 use Rattle.probe.specs.declared.Probed.{Probed}
 use Rattle.probe.proofs.Counted.{kept_few}
-use Rattle.answer.proofs.Choices.{chosen, answered}
+use Rattle.answer.proofs.Choices.{chosen}
 
 -- ---- an inspection
 
@@ -58,11 +59,11 @@ applied_grown b (f ∷ fs) =
     record { held = omega (arith, one.held, rest.held); cut = omega (arith, one.cut, rest.cut) }
 
 module _ (s : System) (l : Filled) (r : Region) (known : Snapshot) (atoms values : List ℕ) where
-  rank_few : inspect_unfit s l r known (length atoms) (length values) ≡ 0 → s.rank ≤ 512
-  unfolding inspect_unfit
+  rank_few : inspect_check s l r known (length atoms) (length values) ≡ Ok tt → s.rank ≤ 512
+  unfolding inspect_check
   rank_few fit =
-      let ten = passed (overfull_by s r known) 9 _ fit in
-      let thirteen = passed (ltb (min s.rows s.atoms) s.rank) 12 _ ten.1 in
+      let ten = passed (overfull_by s r known) _ _ fit in
+      let thirteen = passed (ltb (min s.rows s.atoms) s.rank) _ _ ten.1 in
       let few = or_none (ltb limit s.atoms) (ltb limit s.rows) (or_none (overfull s.atoms s.rows) (ltb limit r.atoms || (known.initialized && ltb limit known.atoms)) ten.0).0 in
       omega (arith, ltb-false limit s.atoms few.0, ltb-false (min s.rows s.atoms) s.rank thirteen.0)
 
@@ -75,16 +76,12 @@ module _ (s : System) (l : Filled) (r : Region) (known : Snapshot) (atoms values
       let long = touched_length s.rank l.index r known in
       record { held = omega (arith, g.held, most, long); cut = omega (arith, g.cut, most, long) }
 
-  pub inspected_small : Counted 512 (inspect_of s l r known atoms values).result
-  unfolding inspect_of
-  inspected_small =
-      let Small : Outcome → Type 0 = λ o. Counted 512 o.result in
-      answered Small (inspect_unfit s l r known (length atoms) (length values))
-      (λ fit.
+  pub inspected_small : inspect_check s l r known (length atoms) (length values) ≡ Ok tt → Counted 512 (inspected s l r known atoms values).result
+  inspected_small fit =
+      let Small : Outcome Inspected → Type 0 = λ o. Counted 512 o.result in
       chosen Small s.refuted (record { held = omega arith; cut = omega arith })
       (chosen Small (eqb s.rank 0) (record { held = omega arith; cut = omega arith })
-      (chosen (Counted 512) (found s l r known).sound (ended_few (rank_few fit)) (record { held = omega arith; cut = omega arith }))))
-      (λ j. record { held = omega arith; cut = omega arith })
+      (chosen (Counted 512) (found s l r known).sound (ended_few (rank_few fit)) (record { held = omega arith; cut = omega arith })))
 
 -- ---- a probe
 
@@ -98,19 +95,15 @@ undecided_few (none ∷ p) = omega (arith, undecided_few p)
 undecided_few (some b ∷ p) = omega (arith, undecided_few p)
 
 module _ (s : System) (ws cs ps : List ℕ) (r : Region) where
-  open_small : probe_unfit s ws cs ps r ≡ 0 → undecided (decisions r) ≤ 512
-  unfolding probe_unfit
+  open_small : probe_check s ws cs ps r ≡ Ok tt → undecided (decisions r) ≤ 512
+  unfolding probe_check
   open_small fit =
-      let ten = passed (overfull s.atoms s.rows || ltb limit r.atoms) 9 _ fit in
+      let ten = passed (overfull s.atoms s.rows || ltb limit r.atoms) _ _ fit in
       let few = or_none (overfull s.atoms s.rows) (ltb limit r.atoms) ten.0 in
       omega (arith, ltb-false limit r.atoms few.1, undecided_few (decisions r), decisions_length r)
 
-  pub probed_small : Sized 512 (probe_of s ws cs ps r)
-  unfolding probe_of
-  probed_small =
-      answered (Sized 512) (probe_unfit s ws cs ps r)
-      (λ fit.
+  pub probed_small : probe_check s ws cs ps r ≡ Ok tt → Sized 512 (probed s ws cs ps r)
+  probed_small fit =
       let few = open_small fit in
       chosen (Sized 512) s.refuted (record { open_few = few; kept_small = omega arith })
-      (record { open_few = few; kept_small = omega (arith, few, kept_few (decisions r) (basis_of s.atoms ws cs (take s.rank ps))) }))
-      (λ j. record { open_few = omega arith; kept_small = omega arith })
+      (record { open_few = few; kept_small = omega (arith, few, kept_few (decisions r) (basis_of s.atoms ws cs (take s.rank ps))) })

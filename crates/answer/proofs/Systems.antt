@@ -5,22 +5,18 @@ use mathlib.Core.Bool.{Bool, true, false, ◌&&◌}
 use mathlib.Core.Option.{Option, none, some}
 use native.Mathlib.Nat.{mul-le-mul, suc-mul}
 use native.Mathlib.Omega.{arith}
-use borrow.Author.Tests.{ltb-false}
 use lib.ListN.{length, take, length-append, length-map, length-take}
-use lib.Dec.{ltb, eqb}
+use lib.Dec.{eqb}
 use Rattle.rows.specs.Row.{Row, add, overlap, has_atom}
 use Rattle.rows.specs.Flat.{width_of, row_at}
-use Rattle.fit.specs.Rows.{limit, overfull}
-use Rattle.fit.proofs.Among.{or_none}
-use Rattle.fit.proofs.Fitting.{passed}
 use Rattle.echelon.specs.Forward.{find, forward, reduced, State, empty, joined, eliminated}
 use Rattle.echelon.specs.Eliminate.{rows_to, written}
 use Rattle.echelon.proofs.Upto.{rows_length}
 use Rattle.index.specs.Index.{column_of, size, incidences_of}
 use Rattle.parity.specs.Basis.{basis_of, units_of}
-use Rattle.parity.specs.Prepare.{Lent, followed, prepare_unfit, prepare_of}
+use Rattle.parity.specs.Prepare.{Lent, followed, prepared}
 use Rattle.parity.specs.declared.Prepared.{Prepared}
-use Rattle.answer.proofs.Choices.{chosen, answered}
+use Rattle.answer.proofs.Choices.{chosen}
 
 forward_few : (n : ℕ) (bs : List Row) (found : Option Row) (r : Row) (k : ℕ) → (forward n bs found r k).1 ≤ k + n
 unfolding forward
@@ -109,19 +105,6 @@ module _ (n m : ℕ) (l : Lent) where
             incidences = omega (arith, incidences_few rs n, product);
           }
 
-  pub prepared_bounded : Bounded (prepare_of n m l).0
-  unfolding prepare_of prepare_unfit state
-  prepared_bounded =
-      answered (λ (x : Prepared × Lent). Bounded x.0) (prepare_unfit n m l)
-      (λ fit.
-      let ten = passed (overfull n m) 9 _ fit in
-      let few = or_none (ltb limit n) (ltb limit m) ten.0 in
-      followed_few state.refuted (ltb-false limit n few.0) (ltb-false limit m few.1))
-      (λ j. record {
-        atoms = omega arith;
-        rows = omega arith;
-        rank = omega arith;
-        additions = omega arith;
-        units = omega arith;
-        incidences = omega arith;
-      })
+  pub prepared_bounded : n ≤ 512 → m ≤ 512 → Bounded (prepared n m l).0
+  unfolding prepared state
+  prepared_bounded = followed_few state.refuted

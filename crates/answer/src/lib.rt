@@ -1,127 +1,120 @@
 // A file answered: checked whole, refused with a line, or loaded, prepared and answered line by line.
 #![tactic(auto)]
 
-ghost use Rattle.std.specs.Prelude.{◌≡◌, ◌≤◌, length, take};
-ghost use Rattle.text.specs.Text.{Wrote};
-ghost use Rattle.answer.specs.Text.{system_line, answers_of, text_of};
+ghost use Rattle.std.specs.Prelude.{◌≡◌, Ok, ◌≤◌, length, take, IfOk};
+ghost use Rattle.parity.specs.Prepare.{prepare_check};
+ghost use Rattle.text.specs.Puts.{Puts};
+ghost use Rattle.answer.specs.Text.{refusal_line, sound_word, system_line, memory_of, answers_of, text_of};
 ghost use Rattle.answer.specs.Answer.{room_of, outcome, answer_of};
 
+use lines::Lent;
+use load::LoadError;
 use parity::Prepared;
+use records::Checked;
+use text::Text;
 
 pub mod promises;
 
-// What `answer` says: 0 and the text's length, or 9.
-#[repr(C)]
-#[derive(Clone, Copy)]
-pub struct Answered {
-    pub number: usize,
-    pub length: usize,
-}
+// The memory lent for the text of a file is shorter than `room` says.
+#[derive(Clone, Copy, Debug, PartialEq, Eq)]
+pub struct NoRoom;
 
 // The room that the text of a file of so many bytes is asked.
 pub fn room(bytes: usize) -> usize
     ensures { result ≡ room_of bytes }
 {
-    if bytes < 65536 {
-        return 64 + bytes * 8;
-    }
-    524352
+    64 + bytes.min(65536) * 8
+}
+
+// How the line of a system ends.
+fn sound_word(refuted: bool) -> &'static [u8]
+    ensures { result.now ≡ sound_word refuted }
+{
+    if refuted { b" refuted\n" } else { b" sound\n" }
 }
 
 // "system": atoms, rows, rank, additions, units, incidences, sound or refuted.
-fn put_system(out: &mut [u8], prepared: Prepared) -> usize
-    ensures { Wrote out.old 0 (system_line prepared) out.new result }
+fn put_system(text: &mut Text, prepared: Prepared)
+    ensures { Puts text.old (system_line prepared) text.new }
 {
     let system = prepared.system;
-    let units = prepared.units;
-    let incidences = prepared.incidences;
-    let first = text::put_two(out, 0, b"system ", system.atoms, b" ", system.rows, b" ");
-    let second = text::put_two(out, first, b"", system.rank, b" ", prepared.additions, b" ");
-    if system.refuted {
-        return text::put_two(out, second, b"", units, b" ", incidences, b" refuted\n");
-    }
-    text::put_two(out, second, b"", units, b" ", incidences, b" sound\n")
+    text.put_two(b"system ", system.atoms, b" ", system.rows, b" ");
+    text.put_two(b"", system.rank, b" ", prepared.additions, b" ");
+    let end = sound_word(system.refuted);
+    text.put_two(b"", prepared.units, b" ", prepared.incidences, end);
 }
 
-// The lines of a file of n atoms whose m rows are loaded.
+// The lines of a file whose rows are loaded: preparation takes them.
 fn put_answers(
     file: &[u8],
-    n: usize,
-    m: usize,
+    checked: Checked,
     rows: &mut [u64],
     constants: &mut [u8],
-    out: &mut [u8],
-) -> usize
-    ensures { Wrote out.old 0 (answers_of file.now n m rows.old constants.old) out.new result }
+    text: &mut Text,
+)
+    requires { prepare_check checked.atoms checked.rows (memory_of rows.old constants.old) ≡ Ok tt }
+    ensures { Puts text.old (answers_of file.now checked.atoms checked.rows rows.old constants.old) text.new }
 {
     let mut basis = [0usize; 512];
     let mut unit_atoms = [0usize; 512];
     let mut unit_values = [0u8; 512];
     let mut index = [0u64; 4096];
     let prepared = parity::prepare(
-        n,
-        m,
+        checked.atoms,
+        checked.rows,
         rows,
         constants,
         &mut basis,
         &mut unit_atoms,
         &mut unit_values,
         &mut index,
-    );
-    let place = put_system(out, prepared);
-    lines::put_lines(
-        file,
-        prepared.system,
+    )
+    .unwrap();
+    put_system(text, prepared);
+    let lent = Lent {
+        system: prepared.system,
         rows,
         constants,
-        &basis,
-        &index,
-        out,
-        place,
-    )
+        basis: &basis,
+        index: &index,
+    };
+    lines::put_lines(file, lent, text);
 }
 
-// The text of a file, from the first byte of out on.
-fn put_text(file: &[u8], out: &mut [u8]) -> usize
-    ensures { Wrote out.old 0 (text_of file.now) out.new result }
+// The line that refuses a file; memory that is too short has none.
+fn put_refusal(text: &mut Text, error: LoadError)
+    ensures { Puts text.old (refusal_line error) text.new }
+{
+    match error {
+        LoadError::Unfit(fault) => {
+            let number = fault.kind.number();
+            text.put_two(b"refused ", number, b" at ", fault.offset, b"\n");
+        }
+        LoadError::Short => {}
+    }
+}
+
+// The text of a file. The memory lent here has room for the most rows.
+fn put_text(file: &[u8], text: &mut Text)
+    ensures { Puts text.old (text_of file.now) text.new }
 {
     let mut rows = [0u64; 4096];
     let mut constants = [0u8; 512];
-    let checked = load::load(file, &mut rows, &mut constants);
-    if checked.number != 0 {
-        return text::put_two(
-            out,
-            0,
-            b"refused ",
-            checked.number,
-            b" at ",
-            checked.offset,
-            b"\n",
-        );
+    match load::load(file, &mut rows, &mut constants) {
+        Ok(checked) => put_answers(file, checked, &mut rows, &mut constants, text),
+        Err(error) => put_refusal(text, error),
     }
-    put_answers(
-        file,
-        checked.atoms,
-        checked.rows,
-        &mut rows,
-        &mut constants,
-        out,
-    )
 }
 
-// Answers a file: its text is written into out, which has the room that `room` says, or else the number is 9 and nothing is touched.
-pub fn answer(file: &[u8], out: &mut [u8]) -> Answered
+// Answers a file: its text is written into out, and its length told, or out has less room than `room` says, and nothing is touched.
+pub fn answer(file: &[u8], out: &mut [u8]) -> Result<usize, NoRoom>
     ensures is { outcome result out.new ≡ answer_of file.now out.old }
-    ensures within { (result.length ≤ length out.new) × (result.length ≡ length (take result.length out.new)) }
+    ensures within { IfOk result (λ n. (n ≤ length out.new) × (n ≡ length (take n out.new))) }
 {
     if out.len() < room(file.len()) {
-        return Answered {
-            number: 9,
-            length: 0,
-        };
+        return Err(NoRoom);
     }
-    Answered {
-        number: 0,
-        length: put_text(file, out),
-    }
+    let mut text = Text::new(out, 0);
+    put_text(file, &mut text);
+    Ok(text.at)
 }

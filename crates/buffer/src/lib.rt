@@ -22,6 +22,7 @@ pub fn read_full<R: Read>(from: &mut R, memory: &mut [u8]) -> io::Result<usize>
     ensures to_the_end { IfOk result (λ n. n < length memory.new → IsAtEnd (R.remaining from.new)) }
 {
     let mut taken = 0;
+    // No range and no iterator: each read says how far the next one starts, and std's reading to the end wants memory that grows.
     while taken < memory.len() {
         let n = from.read(&mut memory[taken..])?;
         if n == 0 {

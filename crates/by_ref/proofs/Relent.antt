@@ -1,15 +1,18 @@
 -- An inspection that is lent other lists: what it answers and forces depends on their lengths alone, and on those only as far as 512.
-use Prim.Native.Nat.{ℕ, zero, suc, ◌*◌, min, ◌≤◌, ◌<◌}
+use Prim.Native.Nat.{ℕ, ◌*◌, min, ◌≤◌, ◌<◌}
 use mathlib.Core.Path.{◌≡◌, refl, sym, ap, ap₂, subst, ◌∙◌}
 use mathlib.Core.List.{List, [], ◌∷◌, ◌++◌, map}
 use mathlib.Core.Bool.{Bool, true, false, cond, not, ◌&&◌, ◌||◌}
 use native.Mathlib.Omega.{arith}
 use borrow.Author.Tests.{lt-ltb, le-ltb, ltb-false}
+use Rattle.std.specs.Prelude.{Result, Ok, Err}
 use lib.ListN.{length, take, drop, replicate, length-take, length-append, length-map}
 use lib.Seq.{length-take-le, take_at, take-take}
 use lib.Dec.{T, ltb, ltb→lt, eqb}
 use Rattle.rows.specs.Flat.{width_of}
-use Rattle.fit.specs.Refusal.{refusal, or_refused}
+use Rattle.refusal.specs.Refusal.{checked, answered, left}
+use Rattle.refusal.specs.declared.Refusal.{Refusal}
+use Rattle.refusal.specs.declared.Refusal.TheVariants.{Short, Overfull, Stray, Clash, Basis, Index, Unequal, Missing}
 use Rattle.fit.specs.Rows.{short, strays, misnames}
 use Rattle.fit.proofs.Among.{or_none}
 use Rattle.index.specs.Index.{column_width}
@@ -20,10 +23,10 @@ use Rattle.region.specs.declared.Region.{Region}
 use Rattle.snapshot.specs.Knowledge.{overfull_by, unequal, missing}
 use Rattle.snapshot.specs.declared.Snapshot.{Snapshot}
 use Rattle.inspect.specs.Consequences.{Consequences}
-use Rattle.inspect.specs.Inspect.{Filled, told_of, Outcome, outcome, atoms_from, values_from, inspect_unfit, concluded, found, inspect_of}
+use Rattle.inspect.specs.Inspect.{Filled, told_of, Outcome, outcome, atoms_from, values_from, inspect_check, concluded, found, inspected, inspect_of}
 use Rattle.inspect.specs.declared.Inspected.{Inspected}
-use Rattle.inspect.specs.declared.Step.TheVariants.{Unchanged, Refuted, Refused}
-use Rattle.ffi.specs.Answers.{outcome_answer}
+use Rattle.inspect.specs.declared.Step.TheVariants.{Unchanged, Refuted}
+use Rattle.ffi.specs.Answers.{inspected_answer, outcome_answer}
 use Rattle.ffi.specs.declared.inspects.Inspection.{Inspection}
 use Rattle.by_ref.specs.Told.{atom_of, value_of}
 use Rattle.by_ref.specs.Steps.{written}
@@ -41,27 +44,28 @@ enough n k few = go (ltb n k) refl
 
 module _ (s : System) (l : Filled) (r : Region) (known : Snapshot) where
   -- the checks after 10 and 13, by whether the forced lists are too short
-  abbrev late : Bool → ℕ
+  abbrev late : Bool → Result Unit Refusal
   late t =
-      refusal ((
-        9,
+      checked ((
+        Short,
         short s.atoms s.rows l.rows l.constants
             || (ltb (length l.basis) (min s.rows s.atoms) || (ltb (length l.index) (s.atoms * column_width s.rank) || (t || t))),
       ) ∷
-      (11, strays s.atoms (width_of s.atoms) l.rows l.constants s.rows || strayed r) ∷
-      (12, clashes r) ∷
-      (13, misnames s.rows l.basis s.rank) ∷
-      (14, not s.refuted && over_rank s.rank (column_width s.rank) l.index s.atoms) ∷
-      (15, unequal s r known) ∷
-      (16, missing r known) ∷
+      (Stray, strays s.atoms (width_of s.atoms) l.rows l.constants s.rows || strayed r) ∷
+      (Clash, clashes r) ∷
+      (Basis, misnames s.rows l.basis s.rank) ∷
+      (Index, not s.refuted && over_rank s.rank (column_width s.rank) l.index s.atoms) ∷
+      (Unequal, unequal s r known) ∷
+      (Missing, missing r known) ∷
       [])
 
-  same_number : (n : ℕ) → inspect_unfit s l r known (min n 512) (min n 512) ≡ inspect_unfit s l r known n n
-  unfolding inspect_unfit
-  same_number n = go (overfull_by s r known) (ltb (min s.rows s.atoms) s.rank) refl refl
+  same_check : (n : ℕ) → inspect_check s l r known (min n 512) (min n 512) ≡ inspect_check s l r known n n
+  unfolding inspect_check
+  same_check n = go (overfull_by s r known) (ltb (min s.rows s.atoms) s.rank) refl refl
     where
       go : (full over : Bool) → overfull_by s r known ≡ full → ltb (min s.rows s.atoms) s.rank ≡ over
-          → cond full 10 (cond over 13 (late (ltb (min n 512) s.rank))) ≡ cond full 10 (cond over 13 (late (ltb n s.rank)))
+          → cond full (Err Overfull) (cond over (Err Basis) (late (ltb (min n 512) s.rank)))
+          ≡ cond full (Err Overfull) (cond over (Err Basis) (late (ltb n s.rank)))
       go true over e e' = refl
       go false true e e' = refl
       go false false e e' =
@@ -69,48 +73,49 @@ module _ (s : System) (l : Filled) (r : Region) (known : Snapshot) where
           let rank : s.rank ≤ min s.rows s.atoms = ltb-false _ _ e' in
           ap late (enough n s.rank (omega (arith, atoms, rank)))
 
-  -- ---- the answer and the forced list, by the number
+  -- ---- the answer and the forced list, by the check
 
   abbrev passed : Bool → Bool → Consequences → Inspected × List (ℕ × Bool)
   passed refuted empty c =
       cond refuted (told_of Refuted 0 0 0 r known, []) (cond empty (told_of Unchanged 0 0 0 r known, []) (concluded c r known, c.forced))
 
-  abbrev parts : ℕ → Inspected × List (ℕ × Bool)
+  abbrev parts : Result Unit Refusal → Result Inspected Refusal × List (ℕ × Bool)
   parts u =
-      or_refused u (passed s.refuted (eqb s.rank 0) (found s l r known)) (λ number. (told_of (Refused number) 0 0 0 r known, []))
+      let p = passed s.refuted (eqb s.rank 0) (found s l r known) in
+      (answered u p.0, left u p.1 [])
 
-  abbrev whole : Inspected × List (ℕ × Bool) → List ℕ → List ℕ → Outcome
+  abbrev whole : Result Inspected Refusal × List (ℕ × Bool) → List ℕ → List ℕ → Outcome (Result Inspected Refusal)
   whole p atoms values = outcome p.0 (atoms_from p.1 atoms) (values_from p.1 values)
 
-  abbrev number : List ℕ → List ℕ → ℕ
-  number atoms values = inspect_unfit s l r known (length atoms) (length values)
+  abbrev check : List ℕ → List ℕ → Result Unit Refusal
+  check atoms values = inspect_check s l r known (length atoms) (length values)
 
-  in_parts : (atoms values : List ℕ) → inspect_of s l r known atoms values ≡ whole (parts (number atoms values)) atoms values
+  abbrev fit : Outcome Inspected → Outcome (Result Inspected Refusal)
+  fit o = outcome (Ok o.result) o.atoms o.values
+
+  in_parts : (atoms values : List ℕ) → inspect_of s l r known atoms values ≡ whole (parts (check atoms values)) atoms values
   unfolding inspect_of
-  in_parts atoms values = by_number (number atoms values)
+  in_parts atoms values = by_check (check atoms values)
     where
       by_tests : (refuted empty : Bool) (c : Consequences)
-          → cond refuted (outcome (told_of Refuted 0 0 0 r known) atoms values)
+          → fit
+          (cond refuted (outcome (told_of Refuted 0 0 0 r known) atoms values)
           (cond empty (outcome (told_of Unchanged 0 0 0 r known) atoms values)
-          (outcome (concluded c r known) (atoms_from c.forced atoms) (values_from c.forced values)))
-          ≡ whole (passed refuted empty c) atoms values
+          (outcome (concluded c r known) (atoms_from c.forced atoms) (values_from c.forced values))))
+          ≡ whole (Ok (passed refuted empty c).0, (passed refuted empty c).1) atoms values
       by_tests true empty c = refl
       by_tests false true c = refl
       by_tests false false c = refl
 
-      by_number : (u : ℕ)
-          → or_refused u
-          (cond s.refuted (outcome (told_of Refuted 0 0 0 r known) atoms values)
-          (cond (eqb s.rank 0) (outcome (told_of Unchanged 0 0 0 r known) atoms values)
-          (outcome (concluded (found s l r known) r known) (atoms_from (found s l r known).forced atoms) (values_from (found s l r known).forced values))))
-          (λ number. outcome (told_of (Refused number) 0 0 0 r known) atoms values)
+      by_check : (u : Result Unit Refusal)
+          → (let o = inspected s l r known atoms values in outcome (answered u o.result) (left u o.atoms atoms) (left u o.values values))
           ≡ whole (parts u) atoms values
-      by_number zero = by_tests s.refuted (eqb s.rank 0) (found s l r known)
-      by_number (suc u) = refl
+      by_check (Ok done) = by_tests s.refuted (eqb s.rank 0) (found s l r known)
+      by_check (Err refusal) = refl
 
   -- the count in the answer is the list's length
-  counted : (u : ℕ) → (parts u).0.forced ≡ length (parts u).1
-  counted zero = by_tests s.refuted (eqb s.rank 0) (found s l r known)
+  counted : (u : Result Unit Refusal) → (inspected_answer r known (parts u).0).forced ≡ length (parts u).1
+  counted (Ok done) = by_tests s.refuted (eqb s.rank 0) (found s l r known)
     where
       either : (t : Bool) (x y : Inspected) (k : ℕ) → x.forced ≡ k → y.forced ≡ k → (cond t x y).forced ≡ k
       either true x y k e e' = e
@@ -120,7 +125,7 @@ module _ (s : System) (l : Filled) (r : Region) (known : Snapshot) where
       by_tests true empty c = refl
       by_tests false true c = refl
       by_tests false false c = either c.sound _ _ (length c.forced) refl refl
-  counted (suc u) = refl
+  counted (Err refusal) = refl
 
 -- ---- from lists of up to 512 entries to a list of entries
 
@@ -138,20 +143,20 @@ module _ (s : System) (l : Filled) (r : Region) (known : Snapshot) (i : Inspecti
   abbrev zeros : List ℕ
   zeros = take m (replicate 512 0)
 
-  module _ (told : (i, (take m ts, take m vs)) ≡ outcome_answer (inspect_of s l r known zeros zeros)) where
-    abbrev u : ℕ
-    u = number s l r known zeros zeros
+  module _ (told : (i, (take m ts, take m vs)) ≡ outcome_answer r known (inspect_of s l r known zeros zeros)) where
+    abbrev u : Result Unit Refusal
+    u = check s l r known zeros zeros
 
     zeros_long : length zeros ≡ m
     zeros_long = length-take-le m (replicate 512 0) (omega arith)
 
-    in_all : (i, (take m ts, take m vs)) ≡ outcome_answer (whole s l r known (parts s l r known u) zeros zeros)
-    in_all = told ∙ ap outcome_answer (in_parts s l r known zeros zeros)
+    in_all : (i, (take m ts, take m vs)) ≡ outcome_answer r known (whole s l r known (parts s l r known u) zeros zeros)
+    in_all = told ∙ ap (outcome_answer r known) (in_parts s l r known zeros zeros)
 
-    same : number s l r known zeros zeros ≡ number s l r known (map atom_of xs) (map value_of xs)
+    same : check s l r known zeros zeros ≡ check s l r known (map atom_of xs) (map value_of xs)
     same =
-        ap (λ (k : ℕ). inspect_unfit s l r known k k) zeros_long ∙ same_number s l r known (length xs)
-        ∙ sym (ap₂ (inspect_unfit s l r known) (length-map xs atom_of) (length-map xs value_of))
+        ap (λ (k : ℕ). inspect_check s l r known k k) zeros_long ∙ same_check s l r known (length xs)
+        ∙ sym (ap₂ (inspect_check s l r known) (length-map xs atom_of) (length-map xs value_of))
 
     abbrev fs : List (ℕ × Bool)
     fs = (parts s l r known u).1
@@ -172,7 +177,7 @@ module _ (s : System) (l : Filled) (r : Region) (known : Snapshot) (i : Inspecti
     -- what it leaves
     pub listed : length ts ≡ 512 → length vs ≡ 512
         → (i, (map atom_of (written ts vs i.forced xs), map value_of (written ts vs i.forced xs))) ≡ outcome_answer
-        (inspect_of s l r known (map atom_of xs) (map value_of xs))
+        r known (inspect_of s l r known (map atom_of xs) (map value_of xs))
     listed ts-long vs-long =
         let k = i.forced in
         let in-ts : k ≤ length ts = omega (arith, few, ts-long) in
@@ -186,5 +191,5 @@ module _ (s : System) (l : Filled) (r : Region) (known : Snapshot) (i : Inspecti
         ∙ ap (λ (v : List ℕ). v ++ drop k (map value_of xs)) (sym (take-take k m vs few) ∙ ap (λ (p : Inspection × (List ℕ × List ℕ)). take k p.1.1) in_all)
         ∙ again (λ (e : ℕ × Bool). cond e.1 1 0) fs zeros (map value_of xs) k count in
         (λ j. ((in_all j).0, (atoms j, values j)))
-        ∙ ap (λ (n : ℕ). outcome_answer (whole s l r known (parts s l r known n) (map atom_of xs) (map value_of xs))) same
-        ∙ ap outcome_answer (sym (in_parts s l r known (map atom_of xs) (map value_of xs)))
+        ∙ ap (λ (v : Result Unit Refusal). outcome_answer r known (whole s l r known (parts s l r known v) (map atom_of xs) (map value_of xs))) same
+        ∙ ap (outcome_answer r known) (sym (in_parts s l r known (map atom_of xs) (map value_of xs)))

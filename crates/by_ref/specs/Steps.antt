@@ -2,14 +2,11 @@
 use Rattle.std.specs.Prelude.{ℕ, take, drop}
 use mathlib.Core.List.{List, ◌++◌, zip_with}
 use Rattle.ffi.specs.declared.inspects.Inspection.{Inspection}
-use Rattle.by_ref.specs.declared.Split.{Split}
+use Rattle.by_ref.specs.declared.Seen.{Seen}
 use Rattle.by_ref.specs.declared.Forced.{Forced}
 
-abbrev pub split_of : Inspection → Split
-split_of i = record {
-  seen = record { kind = i.kind; number = i.number; held = i.held; cut = i.cut; forced = i.forced; region = i.region };
-  known = i.known;
-}
+abbrev pub seen_of : Inspection → Seen
+seen_of i = record { kind = i.kind; number = i.number; held = i.held; cut = i.cut; forced = i.forced; region = i.region }
 
 -- The entries that two lists make.
 abbrev pub entries : List ℕ → List ℕ → List Forced

@@ -1,7 +1,7 @@
 -- What stands behind the references at exit, put together with what is returned: the answer of the by-value call.
 use Rattle.std.specs.Prelude.{ℕ}
 use Rattle.snapshot.specs.declared.Snapshot.{Snapshot}
-use Rattle.snapshot.specs.declared.Published.{Published}
+use Rattle.ffi.specs.declared.inspects.Published.{Published}
 use Rattle.ffi.specs.declared.inspects.Inspection.{Inspection}
 use Rattle.by_ref.specs.declared.Seen.{Seen}
 use Rattle.by_ref.specs.declared.Forced.{Forced}

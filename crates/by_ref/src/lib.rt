@@ -1,23 +1,21 @@
 // The calls that document 01 asks for behind a reference, for C: the knowledge lent by `&mut`, and the forced list as a lent slice of
-// `Forced`. Each is thin: a function above the by-value call does the work, and the call stores what it returns. `by_ref_c` exports them.
+// `Forced`. Each is thin: `Snapshot::publish`, or the inspection by value, does the work. `by_ref_c` exports them.
 #![tactic(auto)]
 
 ghost use Rattle.std.specs.Prelude.{◌≡◌, map, ◌≤◌, min, length, take, replicate};
 ghost use Rattle.snapshot.specs.Knowledge.{publish_of};
 ghost use Rattle.inspect.specs.Inspect.{filled, inspect_of};
-ghost use Rattle.ffi.specs.Answers.{outcome_answer};
+ghost use Rattle.ffi.specs.Answers.{published_answer, outcome_answer};
 ghost use Rattle.by_ref.specs.Told.{publication, joined, atom_of, value_of};
-ghost use Rattle.by_ref.specs.Steps.{split_of, written};
+ghost use Rattle.by_ref.specs.Steps.{seen_of, written};
 
 use ffi::inspects::Inspection;
+use fit::LIMIT;
 use parity::System;
 use region::Region;
 use snapshot::Snapshot;
 
 pub mod promises;
-
-// The most entries of a forced list.
-const LIMIT: usize = 512;
 
 // One entry of the forced list: an atom and its value, 0 or 1.
 #[repr(C)]
@@ -40,14 +38,22 @@ pub struct Seen {
     pub region: Region,
 }
 
-// An inspection in two: what is told, and the knowledge.
-#[derive(Clone, Copy)]
-struct Split {
-    seen: Seen,
-    known: Snapshot,
+impl From<Inspection> for Seen {
+    ghost from_gives = { λ i s. s ≡ seen_of i };
+
+    fn from(inspection: Inspection) -> Seen {
+        Seen {
+            kind: inspection.kind,
+            number: inspection.number,
+            held: inspection.held,
+            cut: inspection.cut,
+            forced: inspection.forced,
+            region: inspection.region,
+        }
+    }
 }
 
-// An inspection with its forced list in two arrays.
+// An inspection with its forced list in two arrays, as the call by value is lent it.
 #[derive(Clone, Copy)]
 struct Listed {
     inspection: Inspection,
@@ -57,58 +63,12 @@ struct Listed {
 
 // Publishes a region in the very record that was passed, and answers the number under which the region is refused, or 0.
 pub fn worzubil_publish_in(known: &mut Snapshot, region: Region) -> usize
-    ensures { publication result known.new ≡ publish_of known.old region }
+    ensures { publication result known.new ≡ published_answer (publish_of known.old region) }
 {
-    let old = *known;
-    let published = old.publish(region);
-    *known = published.known;
-    published.number
-}
-
-// The fields of an inspection, but for the knowledge, and the knowledge.
-fn parted(inspection: Inspection) -> Split
-    ensures { result ≡ split_of inspection }
-{
-    let region = inspection.region;
-    let known = inspection.known;
-    Split {
-        seen: Seen {
-            kind: inspection.kind,
-            number: inspection.number,
-            held: inspection.held,
-            cut: inspection.cut,
-            forced: inspection.forced,
-            region,
-        },
-        known,
+    match known.publish(region) {
+        Ok(()) => 0,
+        Err(refusal) => refusal.number(),
     }
-}
-
-// An inspection by value, in two.
-fn inspect_split(
-    system: System,
-    rows: &[u64],
-    constants: &[u8],
-    basis: &[usize],
-    index: &[u64],
-    region: Region,
-    known: Snapshot,
-    forced_atoms: &mut [usize],
-    forced_values: &mut [u8],
-) -> Split
-    ensures { (joined result.seen result.known, (forced_atoms.new, forced_values.new)) ≡ outcome_answer (inspect_of system (filled rows.now constants.now basis.now index.now) region known forced_atoms.old forced_values.old) }
-{
-    parted(ffi::inspects::worzubil_inspect(
-        system,
-        rows,
-        constants,
-        basis,
-        index,
-        region,
-        known,
-        forced_atoms,
-        forced_values,
-    ))
 }
 
 // Inspects, with the knowledge in the very record that was passed.
@@ -123,22 +83,21 @@ pub fn worzubil_inspect_in(
     forced_atoms: &mut [usize],
     forced_values: &mut [u8],
 ) -> Seen
-    ensures { (joined result known.new, (forced_atoms.new, forced_values.new)) ≡ outcome_answer (inspect_of system (filled rows.now constants.now basis.now index.now) region known.old forced_atoms.old forced_values.old) }
+    ensures { (joined result known.new, (forced_atoms.new, forced_values.new)) ≡ outcome_answer region known.old (inspect_of system (filled rows.now constants.now basis.now index.now) region known.old forced_atoms.old forced_values.old) }
 {
-    let old = *known;
-    let split = inspect_split(
+    let inspection = ffi::inspects::worzubil_inspect(
         system,
         rows,
         constants,
         basis,
         index,
         region,
-        old,
+        *known,
         forced_atoms,
         forced_values,
     );
-    *known = split.known;
-    split.seen
+    *known = inspection.known;
+    Seen::from(inspection)
 }
 
 // An inspection by value whose forced list has so many entries, up to 512.
@@ -152,11 +111,11 @@ fn gather(
     known: Snapshot,
     room: usize,
 ) -> Listed
-    ensures { (result.inspection, (take (min room 512) result.atoms, take (min room 512) result.values)) ≡ outcome_answer (inspect_of system (filled rows.now constants.now basis.now index.now) region known (take (min room 512) (replicate 512 0)) (take (min room 512) (replicate 512 0))) }
+    ensures { (result.inspection, (take (min room 512) result.atoms, take (min room 512) result.values)) ≡ outcome_answer region known (inspect_of system (filled rows.now constants.now basis.now index.now) region known (take (min room 512) (replicate 512 0)) (take (min room 512) (replicate 512 0))) }
 {
     let mut atoms = [0usize; 512];
     let mut values = [0u8; 512];
-    let end = fit::least(room, LIMIT);
+    let end = room.min(LIMIT);
     let inspection = ffi::inspects::worzubil_inspect(
         system,
         rows,
@@ -176,17 +135,15 @@ fn gather(
 }
 
 // Writes the first so many entries of a list.
-fn write(list: &mut [Forced], atoms: [usize; 512], values: [u8; 512], count: usize)
+fn write(list: &mut [Forced], atoms: &[usize; 512], values: &[u8; 512], count: usize)
     requires { (count ≤ length list.old) × (count ≤ 512) }
-    ensures { list.new ≡ written atoms values count list.old }
+    ensures { list.new ≡ written atoms.now values.now count list.old }
 {
-    let mut i = 0;
-    while i < count {
+    for i in 0..count {
         list[i] = Forced {
             atom: atoms[i],
             value: values[i],
         };
-        i += 1;
     }
 }
 
@@ -201,7 +158,7 @@ pub fn worzubil_inspect_list(
     known: Snapshot,
     list: &mut [Forced],
 ) -> Inspection
-    ensures { (result, (map atom_of list.new, map value_of list.new)) ≡ outcome_answer (inspect_of system (filled rows.now constants.now basis.now index.now) region known (map atom_of list.old) (map value_of list.old)) }
+    ensures { (result, (map atom_of list.new, map value_of list.new)) ≡ outcome_answer region known (inspect_of system (filled rows.now constants.now basis.now index.now) region known (map atom_of list.old) (map value_of list.old)) }
 {
     let listed = gather(
         system,
@@ -213,6 +170,11 @@ pub fn worzubil_inspect_list(
         known,
         list.len(),
     );
-    write(list, listed.atoms, listed.values, listed.inspection.forced);
+    write(
+        list,
+        &listed.atoms,
+        &listed.values,
+        listed.inspection.forced,
+    );
     listed.inspection
 }

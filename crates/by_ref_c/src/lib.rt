@@ -5,7 +5,7 @@
 ghost use Rattle.std.specs.Prelude.{◌≡◌, map};
 ghost use Rattle.snapshot.specs.Knowledge.{publish_of};
 ghost use Rattle.inspect.specs.Inspect.{filled, inspect_of};
-ghost use Rattle.ffi.specs.Answers.{outcome_answer};
+ghost use Rattle.ffi.specs.Answers.{published_answer, outcome_answer};
 ghost use Rattle.by_ref.specs.Told.{publication, joined, atom_of, value_of};
 
 use by_ref::{Forced, Seen};
@@ -17,7 +17,7 @@ use snapshot::Snapshot;
 // Publishes a region in the very record that was passed, and answers the number under which the region is refused, or 0.
 #[unsafe(no_mangle)]
 pub extern "C" fn worzubil_publish_in(known: &mut Snapshot, region: Region) -> usize
-    ensures { publication result known.new ≡ publish_of known.old region }
+    ensures { publication result known.new ≡ published_answer (publish_of known.old region) }
 {
     by_ref::worzubil_publish_in(known, region)
 }
@@ -35,7 +35,7 @@ pub extern "C" fn worzubil_inspect_in(
     forced_atoms: &mut [usize],
     forced_values: &mut [u8],
 ) -> Seen
-    ensures { (joined result known.new, (forced_atoms.new, forced_values.new)) ≡ outcome_answer (inspect_of system (filled rows.now constants.now basis.now index.now) region known.old forced_atoms.old forced_values.old) }
+    ensures { (joined result known.new, (forced_atoms.new, forced_values.new)) ≡ outcome_answer region known.old (inspect_of system (filled rows.now constants.now basis.now index.now) region known.old forced_atoms.old forced_values.old) }
 {
     by_ref::worzubil_inspect_in(
         system,
@@ -62,7 +62,7 @@ pub extern "C" fn worzubil_inspect_list(
     known: Snapshot,
     list: &mut [Forced],
 ) -> Inspection
-    ensures { (result, (map atom_of list.new, map value_of list.new)) ≡ outcome_answer (inspect_of system (filled rows.now constants.now basis.now index.now) region known (map atom_of list.old) (map value_of list.old)) }
+    ensures { (result, (map atom_of list.new, map value_of list.new)) ≡ outcome_answer region known (inspect_of system (filled rows.now constants.now basis.now index.now) region known (map atom_of list.old) (map value_of list.old)) }
 {
     by_ref::worzubil_inspect_list(system, rows, constants, basis, index, region, known, list)
 }

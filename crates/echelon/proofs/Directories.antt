@@ -15,7 +15,7 @@ use Rattle.rows.specs.Flat.{row_at}
 use Rattle.echelon.specs.Forward.{same_low, empty, find}
 use Rattle.echelon.specs.Eliminate.{rows_to}
 use Rattle.echelon.specs.Promises.{Lowest}
-use Rattle.echelon.specs.Steps.{Clean, Known, Directory, Pivot}
+use Rattle.echelon.specs.Steps.{Clean, Known, ListsPivots, IsNewPivot}
 use Rattle.echelon.proofs.Lows.{same_low_lem, other_low, none_low}
 
 module _ (n w t : ℕ) (ws cs : List ℕ) (r : Row) where
@@ -34,7 +34,7 @@ get_d_zeros (suc k) zero = refl
 get_d_zeros (suc k) (suc a) = get_d_zeros k a
 
 pub directory_start : (n w : ℕ) (ws cs heads sources : List ℕ) → ((a : ℕ) → get_or heads a 0 ≡ 0) → w * 64 ≤ length heads → w * 64 ≤ length sources
-    → Directory n w 0 ws cs heads sources
+    → ListsPivots n w 0 ws cs heads sources
 unfolding rows_to
 directory_start n w ws cs heads sources zeros l l' = record {
   heads_wide = l;
@@ -52,7 +52,7 @@ directory_start n w ws cs heads sources zeros l l' = record {
     none : (a : ℕ) → 0 < get_or heads a 0 → ⊥
     none a p = omega (arith, zeros a)
 
-module _ (n w t : ℕ) (ws cs heads sources : List ℕ) (dir : Directory n w t ws cs heads sources) (clean : Clean n w t ws cs) where
+module _ (n w t : ℕ) (ws cs heads sources : List ℕ) (dir : ListsPivots n w t ws cs heads sources) (clean : Clean n w t ws cs) where
   pub clean_all : (r : ℕ) → r < suc t → Clean n w r ws cs
   clean_all r h = go (eqb r t) refl
     where
@@ -71,7 +71,7 @@ module _ (n w t : ℕ) (ws cs heads sources : List ℕ) (dir : Directory n w t w
     found = λ p r low. before n w t ws cs r (other r low) ∙ known.found p r low;
   }
 
-  pub directory_empty : empty (row_at n w ws cs t).atoms ≡ true → Directory n w (suc t) ws cs heads sources
+  pub directory_empty : empty (row_at n w ws cs t).atoms ≡ true → ListsPivots n w (suc t) ws cs heads sources
   directory_empty e = record {
     heads_wide = dir.heads_wide;
     sources_wide = dir.sources_wide;
@@ -79,7 +79,7 @@ module _ (n w t : ℕ) (ws cs heads sources : List ℕ) (dir : Directory n w t w
     known = λ a h. known_on (get_or heads a 0) (get_or sources a 0) a (dir.known a h) (λ r low. none_low r.atoms (row_at n w ws cs t).atoms e);
   }
 
-  module _ (wide : n ≤ w * 64) (head lowest : ℕ) (some-head : 0 < head) (pivot : Pivot n w t ws cs head lowest) where
+  module _ (wide : n ≤ w * 64) (head lowest : ℕ) (pivot : IsNewPivot n w t ws cs head lowest) where
     heads' : List ℕ
     heads' = set heads lowest head
 
@@ -98,7 +98,7 @@ module _ (n w t : ℕ) (ws cs heads sources : List ℕ) (dir : Directory n w t w
     known_new =
         rw (head_here, source_here)
         (record {
-          none_yet = λ e. let z : ⊥ = omega arith in absurd z;
+          none_yet = λ e. let z : ⊥ = omega (arith, pivot.some) in absurd z;
           earlier = λ p. omega arith;
           head = λ p. pivot.head_is;
           below = λ p. pivot.below;
@@ -118,7 +118,7 @@ module _ (n w t : ℕ) (ws cs heads sources : List ℕ) (dir : Directory n w t w
         go true e = rw (eqb-true a lowest e) known_new
         go false e = known_old a h (eqb-false a lowest e)
 
-    pub directory_pivot : Directory n w (suc t) ws cs (set heads lowest head) (set sources lowest t)
+    pub directory_pivot : ListsPivots n w (suc t) ws cs (set heads lowest head) (set sources lowest t)
     unfolding heads' sources'
     directory_pivot = record {
       heads_wide = simp length-set dir.heads_wide;

@@ -4,6 +4,7 @@ use mathlib.Core.Path.{◌≡◌, refl, sym, ap, ◌∙◌}
 use mathlib.Core.List.{List, [], ◌∷◌, ◌++◌}
 use mathlib.Core.Bool.{true}
 use mathlib.Core.Option.{none, some}
+use Rattle.std.specs.Prelude.{Some, None}
 use native.Mathlib.Nat.{mod-eq_of_lt}
 use native.Mathlib.Numerals.{add-one}
 use native.Mathlib.Omega.{arith}
@@ -20,7 +21,8 @@ use Rattle.rows.proofs.Rowwise.{atoms_none}
 use Rattle.echelon.specs.Forward.{empty, find, reduced}
 use Rattle.echelon.specs.Eliminate.{rows_to}
 use Rattle.echelon.specs.Promises.{Lowest}
-use Rattle.echelon.specs.Steps.{Clean, OnlyRow, EmptyTo, Directory, head_of, Reduced, Finished}
+use Rattle.echelon.specs.declared.directory.NewPivot.{NewPivot}
+use Rattle.echelon.specs.Steps.{Clean, OnlyRow, EmptyTo, ListsPivots, head_of, Reduced, Finished}
 use Rattle.echelon.proofs.Lows.{find_none, empty_none}
 use Rattle.echelon.proofs.Replaced.{row_at_length, row_kept, at_kept, clean_kept, rows_kept, only_start, only_join}
 use Rattle.echelon.proofs.Onwards.{onward_start, onward_join, onward_few, onward_end}
@@ -33,7 +35,7 @@ module _ (n w t : ℕ) (ws cs ws' cs' heads sources : List ℕ) (only : OnlyRow 
   rows_same : rows_to n w ws' cs' t ≡ rows_to n w ws cs t
   rows_same = rows_kept n w t t ws cs ws' cs' (omega arith) only
 
-  pub directory_kept : Directory n w t ws cs heads sources → Directory n w t ws' cs' heads sources
+  pub directory_kept : ListsPivots n w t ws cs heads sources → ListsPivots n w t ws' cs' heads sources
   directory_kept dir = record {
     heads_wide = dir.heads_wide;
     sources_wide = dir.sources_wide;
@@ -74,6 +76,7 @@ module _ (n w t : ℕ) (ws cs : List ℕ) where
     only = only_start w t ws cs;
     clean = clean;
     below = below;
+    fits = λ f. f;
     onward = onward_start (rows_to n w ws cs t) (row_at n w ws cs t);
   }
 
@@ -83,6 +86,7 @@ module _ (n w t : ℕ) (ws cs : List ℕ) where
       only = only_join w t ws cs ws' cs' ws'' cs'' so.only on.only;
       clean = on.clean;
       below = on.below;
+      fits = λ f. on.fits (so.fits f);
       onward =
           onward_join (rows_to n w ws cs t) (row_at n w ws cs t) k (row_at n w ws' cs' t) so.onward j (row_at n w ws'' cs'' t)
           (rw (rows_kept n w t t ws cs ws' cs' (omega arith) so.only) at on.onward);
@@ -97,6 +101,7 @@ module _ (n w t : ℕ) (ws cs : List ℕ) where
       only = so.only;
       clean = so.clean;
       below = empty_next w t ws' i so.clean.words h e so.below;
+      fits = so.fits;
       onward = so.onward;
     }
 
@@ -116,18 +121,18 @@ module _ (n w t : ℕ) (ws cs : List ℕ) where
       unfolding row_at
       none_atom = empty_none (row_at n w ws' cs' t) (λ a. atoms_none n (set_of (row w ws' t)) a (ap (λ (x : ℕ). has x a) none_set ∙ has_none a))
 
-      pub finished_empty : Finished n w t ws cs ws' cs' 0 0 k
+      pub finished_empty : Finished n w t ws cs ws' cs' None k
       finished_empty = record {
         only = so.only;
         clean = so.clean;
         few = reduced_few;
+        fits = so.fits;
         row = ended (find_none (row_at n w ws' cs' t) none_atom (rows_to n w ws cs t));
-        none_left = λ e. none_atom;
-        pivot = λ h. let z : ⊥ = omega arith in absurd z;
+        pivot_is = none_atom;
       }
 
     -- word i has an atom, and its lowest one no pivot
-    module _ (heads sources : List ℕ) (dir : Directory n w t ws cs heads sources) (inside : i < w) (word : ℕ) (is : word ≡ get_or (row w ws' t) i 0)
+    module _ (heads sources : List ℕ) (dir : ListsPivots n w t ws cs heads sources) (inside : i < w) (word : ℕ) (is : word ≡ get_or (row w ws' t) i 0)
         (fits : word < 2 ^ 64) (some_atom : 0 < word) (none_yet : head_of heads i word ≡ 0) where
       a : ℕ
       a = i * 64 + count_trailing_zeros 64 word
@@ -142,9 +147,9 @@ module _ (n w t : ℕ) (ws cs : List ℕ) where
       unfolding row_at a
       lowest = rw whole (atom_lowest n i word (row w ws' t) some_atom fits small (eqb (get_or cs' t 0) 1))
 
-      pub finished_pivot : Finished n w t ws cs ws' cs' word (i * 64 + count_trailing_zeros 64 word) k
+      pub finished_pivot : (p : NewPivot) → p.head ≡ word → p.lowest.0 ≡ i * 64 + count_trailing_zeros 64 word → Finished n w t ws cs ws' cs' (Some p) k
       unfolding a
-      finished_pivot =
+      finished_pivot p head_is lowest_is =
           let below = atom_below n i word (row w ws' t) some_atom fits small in
           let place = atom_word n i word (row w ws' t) some_atom fits small in
           let none_here : get_or heads a 0 ≡ 0 = sym (head_at heads i word some_atom) ∙ none_yet in
@@ -152,12 +157,15 @@ module _ (n w t : ℕ) (ws cs : List ℕ) where
             only = so.only;
             clean = so.clean;
             few = reduced_few;
+            fits = so.fits;
             row = ended ((dir.known a below).none_yet none_here (row_at n w ws' cs' t) lowest);
-            none_left = λ e. let z : ⊥ = omega arith in absurd z;
-            pivot = λ h. record {
-              atom = below;
-              is = lowest;
-              head_is = is ∙ ap (λ (j : ℕ). get_or (row w ws' t) j 0) (sym place);
-              below = ap (λ (j : ℕ). set_of (take j (row w ws' t))) place ∙ so.below;
-            };
+            pivot_is =
+                rw (head_is, lowest_is)
+                (record {
+                  some = some_atom;
+                  atom = below;
+                  is = lowest;
+                  head_is = is ∙ ap (λ (j : ℕ). get_or (row w ws' t) j 0) (sym place);
+                  below = ap (λ (j : ℕ). set_of (take j (row w ws' t))) place ∙ so.below;
+                });
           }

@@ -13,6 +13,7 @@ pub mod Onwards
 pub mod Turns
 pub mod Looks
 pub mod Finishing
+pub mod First
 pub mod Directories
 pub mod Upto
 pub mod Whole

@@ -5,9 +5,11 @@ use mathlib.Core.List.{List}
 use mathlib.Core.Bool.{Bool, cond}
 use mathlib.Core.Option.{some}
 use native.Mathlib.Nat.{mul-le-mul_right}
+use native.Mathlib.Numerals.{add-one}
 use native.Mathlib.Omega.{arith}
 use borrow.Author.Tests.{ne_eqb}
-use lib.ListN.{get_or, take, drop}
+use lib.ListN.{length, get_or, take, drop, set}
+use lib.Bits.{bit_xor}
 use lib.Count.{count_trailing_zeros}
 use lib.Pow.{pow_pos}
 use lib.Dec.{eqb}
@@ -20,9 +22,11 @@ use Rattle.rows.proofs.Rowwise.{has_below, atoms_none}
 use Rattle.echelon.specs.Forward.{find}
 use Rattle.echelon.specs.Eliminate.{rows_to}
 use Rattle.echelon.specs.Promises.{Lowest}
-use Rattle.echelon.specs.Steps.{Clean, EmptyTo, Directory, head_of}
-use Rattle.echelon.proofs.Replaced.{row_kept, at_kept, clean_kept}
-use Rattle.echelon.proofs.Turns.{from, worked, Turn}
+use Rattle.echelon.specs.declared.directory.Pivot.{Pivot}
+use Rattle.echelon.specs.Steps.{added_from, Clean, EmptyTo, ListsPivots, IsPivotOf, head_of, rest}
+use Rattle.echelon.proofs.Replaced.{row_at_length, row_kept, at_kept, clean_kept}
+use Rattle.echelon.proofs.Onwards.{onward_few}
+use Rattle.echelon.proofs.Turns.{from, worked, Turn, turn_next, turn_falls}
 
 -- the lowest atom of a word that is not empty, the words before it being empty
 module _ (n i word : ℕ) (l : List ℕ) (some_atom : 0 < word) (word_fits : word < 2 ^ 64) (fits : from l i word < 2 ^ n) where
@@ -63,12 +67,6 @@ pub head_at : (heads : List ℕ) (i word : ℕ) → 0 < word → head_of heads i
 unfolding head_of
 head_at heads i word h = ap (λ (e : Bool). cond e 0 (get_or heads (i * 64 + count_trailing_zeros 64 word) 0)) (ne_eqb word 0 (λ e. omega arith))
 
--- the lowest atom of the word under work
-pub turn_below : {n w t i : ℕ} {ws cs ws' cs' : List ℕ} {word k : ℕ} → Turn n w t i ws cs ws' cs' word k → word < 2 ^ 64 → 0 < word
-    → i * 64 + count_trailing_zeros 64 word < n
-turn_below {n} {w} {t} {i} {ws} {cs} {ws'} {cs'} {word} {k} turn word_fits some_word =
-    atom_below n i word (row w ws' t) some_word word_fits turn.fits
-
 -- the pivot that is found, as `turn_next` asks for it
 pub record Found (n w t i : ℕ) (ws cs ws' cs' : List ℕ) (word head s : ℕ) : Type 0 where
   pub earlier : s < t
@@ -77,7 +75,7 @@ pub record Found (n w t i : ℕ) (ws cs ws' cs' : List ℕ) (word head s : ℕ) 
   pub is : head ≡ get_or (row w ws' s) i 0
   pub found : find (worked n w t ws' cs' i word) (rows_to n w ws cs t) ≡ some (row_at n w ws' cs' s)
 
-module _ (n w t i : ℕ) (ws cs ws' cs' heads sources : List ℕ) (word head k : ℕ) (dir : Directory n w t ws cs heads sources)
+module _ (n w t i : ℕ) (ws cs ws' cs' heads sources : List ℕ) (word head k : ℕ) (dir : ListsPivots n w t ws cs heads sources)
     (turn : Turn n w t i ws cs ws' cs' word k) (word_fits : word < 2 ^ 64) (is : head ≡ head_of heads i word) (some-head : 0 < head) where
   some_word : 0 < word
   some_word = head_some heads i word (rw is at some-head)
@@ -107,3 +105,28 @@ module _ (n w t i : ℕ) (ws cs ws' cs' heads sources : List ℕ) (word head k :
             known.found some-here (worked n w t ws' cs' i word) (atom_lowest n i word l some_word word_fits turn.fits (eqb (get_or cs' t 0) 1))
             ∙ ap some (sym (at_kept w t s early n ws cs ws' cs' turn.only));
       }
+
+-- one turn of `reduce_word`: the pivot is added
+pub record Made (n w t i : ℕ) (ws cs ws' cs' : List ℕ) (word k : ℕ) (p : Pivot) : Type 0 where
+  pub earlier : p.source.0 < t
+  pub there : p.source.0 < length cs'
+  pub few : k + 1 ≤ n
+  pub next : Turn n w t i ws cs (added_from (i + 1) w ws' t p.source.0) (set cs' t (bit_xor (get_or cs' t 0) (get_or cs' p.source.0 0))) (bit_xor word p.head) (k + 1)
+  pub falls : rest (worked n w t (added_from (i + 1) w ws' t p.source.0) (set cs' t (bit_xor (get_or cs' t 0) (get_or cs' p.source.0 0))) i (bit_xor word p.head)).atoms
+      < rest (worked n w t ws' cs' i word).atoms
+
+pub turn_made : {n w t i : ℕ} {ws cs ws' cs' heads sources : List ℕ} {word k : ℕ} {p : Pivot} → Turn n w t i ws cs ws' cs' word k → IsPivotOf heads sources i word p
+    → Clean n w t ws cs → ListsPivots n w t ws cs heads sources → i < w → word < 2 ^ 64 → p.head < 2 ^ 64 → Made n w t i ws cs ws' cs' word k p
+turn_made {n} {w} {t} {i} {ws} {cs} {ws'} {cs'} {heads} {sources} {word} {k} {p} turn is clean dir inside word_fits head_fits =
+    let f = rw (sym is.source) at (look_found n w t i ws cs ws' cs' heads sources word p.head k dir turn word_fits is.head is.some) in
+    let room : t * w + w ≤ length ws' = omega (arith, turn.only.words, clean.words) in
+    let room' : t < length cs' = omega (arith, turn.only.constants, clean.constants) in
+    let next = turn_next n w t i ws cs ws' cs' word k inside room word_fits turn p.source.0 p.head room' f.clean f.below f.is head_fits f.found in
+    record {
+      earlier = f.earlier;
+      there = f.clean.constants;
+      few = omega (arith, onward_few (rows_to n w ws cs t) (row_at n w ws cs t) _ _ next.onward n (row_at_length n w ws cs t));
+      next = rw (add-one i) next;
+      falls =
+          rw (add-one i) (turn_falls n w t i ws cs ws' cs' word k inside room word_fits turn p.source.0 p.head room' f.clean f.below f.is head_fits f.found);
+    }

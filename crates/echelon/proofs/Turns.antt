@@ -22,7 +22,7 @@ use Rattle.rows.proofs.Digits.{atoms_xor, atoms_length}
 use Rattle.rows.proofs.Rowwise.{constant_sum, zip_length}
 use Rattle.echelon.specs.Forward.{find}
 use Rattle.echelon.specs.Eliminate.{rows_to}
-use Rattle.echelon.specs.Steps.{added_from, Clean, OnlyRow, EmptyTo, rest, Onward, Reduced}
+use Rattle.echelon.specs.Steps.{added_from, Clean, OnlyRow, WordsFit, EmptyTo, rest, Onward, Reduced}
 use Rattle.echelon.proofs.Lows.{rest_falls}
 use Rattle.echelon.proofs.Replaced.{put_row, put_only, set_put, only_start, only_join}
 use Rattle.echelon.proofs.Onwards.{onward_start, onward_next, find_same}
@@ -62,6 +62,13 @@ from_xor l r i v u e lv lu =
     ∙ ap (λ (n : ℕ). n * 2 ^ (i * 64)) (sym (xor_block 64 a b v u lv lu)) ∙ lows
 
 -- ---- the row under work
+
+set_fits : (ws : List ℕ) (i v : ℕ) → WordsFit ws → v < 2 ^ 64 → WordsFit (set ws i v)
+set_fits [] i v f h j = f j
+set_fits (x ∷ ws) zero v f h zero = h
+set_fits (x ∷ ws) zero v f h (suc j) = f (suc j)
+set_fits (x ∷ ws) (suc i) v f h zero = f 0
+set_fits (x ∷ ws) (suc i) v f h (suc j) = set_fits ws i v (λ k. f (suc k)) h j
 
 pub row_word : (w t : ℕ) (ws : List ℕ) (i : ℕ) → i < w → get_or (row w ws t) i 0 ≡ get_or ws (t * w + i) 0
 row_word w t ws i h = get_or-take w (drop (t * w) ws) i 0 h ∙ get_or-drop (t * w) ws i 0
@@ -200,9 +207,9 @@ module _ (n w t i : ℕ) (ws cs ws' cs' : List ℕ) (word k : ℕ) (inside : i <
       from_whole back i (omega (arith, back_wide)) (rw back_at fits) back_below ∙ ap (from back i) back_at
       ∙ ap (λ (l : List ℕ). (set_of l * 2 ^ 64 + word) * 2 ^ (i * 64)) (drop-set-lt (suc i) target i word (omega arith))
 
-  pub turn_end : t < length cs' → Reduced n w t i ws cs (set ws' (t * w + i) word) cs' k
+  pub turn_end : t < length cs' → WordsFit ws' → Reduced n w t i ws cs (set ws' (t * w + i) word) cs' k
   unfolding back target row_at
-  turn_end room' = record {
+  turn_end room' words_fit = record {
     only =
         only_join w t ws cs ws' cs' (set ws' (t * w + i) word) cs' turn.only
         (rw (set_put w t ws' room i word inside) (rw (set-get_or cs' t 0) at (put_only w t ws' room back back_wide cs' (get_or cs' t 0))));
@@ -213,8 +220,6 @@ module _ (n w t i : ℕ) (ws cs ws' cs' : List ℕ) (word k : ℕ) (inside : i <
       constant = turn.constant;
     };
     below = rw back_row back_below;
+    fits = λ _. set_fits ws' (t * w + i) word words_fit fits;
     onward = rw (back_row, back_whole) turn.onward;
   }
-
-  pub turn_word : word ≡ get_or (row w (set ws' (t * w + i) word) t) i 0
-  turn_word = sym (ap (λ (l : List ℕ). get_or l i 0) back_row ∙ back_at)

@@ -2,13 +2,14 @@
 use Prim.Native.Nat.{ℕ, zero, suc, ◌+◌, ◌-◌, ◌*◌, ◌^◌, ◌≤◌, ◌<◌, min}
 use mathlib.Core.Path.{◌≡◌, refl, sym, ap, ap₂, ◌∙◌}
 use mathlib.Core.List.{List, [], ◌∷◌, ◌++◌}
-use mathlib.Core.Bool.{Bool, true, false, cond, ◌&&◌, and-eq-true_iff}
+use Rattle.std.specs.Prelude.{Option, Some, None}
+use mathlib.Core.Bool.{Bool, true, false, cond, ◌&&◌}
 use native.Mathlib.Nat.{suc-mul, add-zero, zero-add, suc-add}
 use native.Mathlib.Numerals.{add-one}
 use native.Mathlib.Omega.{arith}
 use lib.ListN.{length, get_or, take, drop, set, length-append, length-set, take-append-drop}
 use lib.Seq.{drop-drop, drop-cons, append_snoc, set_at, get_or-drop}
-use borrow.Author.Tests.{ne_eqb, eqb-true, eqb-false}
+use borrow.Author.Tests.{eq-eqb, ne_eqb}
 use lib.Dec.{eqb}
 use Rattle.words.specs.Set.{set_of}
 use Rattle.rows.specs.Row.{Row}
@@ -16,7 +17,8 @@ use Rattle.rows.specs.Flat.{row_at, atoms_of}
 use Rattle.echelon.specs.Forward.{State, empty, joined, next, reduced, eliminated}
 use Rattle.echelon.specs.Eliminate.{rows_to, words_of, constants_of, written, outcome}
 use Rattle.echelon.specs.Promises.{Sized}
-use Rattle.echelon.specs.Steps.{Clean, Directory, Finished}
+use Rattle.echelon.specs.declared.directory.NewPivot.{NewPivot}
+use Rattle.echelon.specs.Steps.{Clean, WordsFit, ListsPivots, IsNewPivot, Finished}
 use Rattle.echelon.proofs.Lows.{has_some}
 use Rattle.echelon.proofs.Left.{rows_le}
 use Rattle.echelon.proofs.Basis.{rank_rows}
@@ -50,12 +52,13 @@ pub record Upto (n w t : ℕ) (ws cs ps ws' cs' ps' heads sources : List ℕ) (r
   pub rank_is : rank ≡ length (after n w ws cs t).basis
   pub additions_is : additions ≡ (after n w ws cs t).additions
   pub going : (after n w ws cs t).refuted ≡ false
-  pub directory : Directory n w t ws' cs' heads sources
+  pub directory : ListsPivots n w t ws' cs' heads sources
   pub few : additions ≤ t * 512
+  pub fits : WordsFit ws'
 
-pub upto_start : (n w : ℕ) (ws cs ps heads sources : List ℕ) → Directory n w 0 ws cs heads sources → Upto n w 0 ws cs ps ws cs ps heads sources 0 0
+pub upto_start : (n w : ℕ) (ws cs ps heads sources : List ℕ) → ListsPivots n w 0 ws cs heads sources → WordsFit ws → Upto n w 0 ws cs ps ws cs ps heads sources 0 0
 unfolding eliminated rows_to
-upto_start n w ws cs ps heads sources dir = record {
+upto_start n w ws cs ps heads sources dir fits = record {
   words = refl;
   constants = refl;
   entries = refl;
@@ -68,6 +71,7 @@ upto_start n w ws cs ps heads sources dir = record {
   going = refl;
   directory = dir;
   few = omega arith;
+  fits = fits;
 }
 
 -- ---- what stands at the end
@@ -91,7 +95,7 @@ module _ (n w t : ℕ) (ws cs ws' cs' : List ℕ) (rs : List Row) (rows : rows_t
 pub written_is : (w : ℕ) (st : State) (ws cs ps ws' cs' ps' : List ℕ) (rank additions : ℕ) (refuted : Bool)
     → ws' ≡ words_of w st.rows ++ drop (length st.rows * w) ws → cs' ≡ constants_of st.rows ++ drop (length st.rows) cs
     → ps' ≡ st.basis ++ drop rank ps → rank ≡ length st.basis → additions ≡ st.additions → refuted ≡ st.refuted
-    → outcome (record { number = 0; rank = rank; additions = additions; refuted = refuted }) ws' cs' ps' ≡ written w st ws cs ps
+    → outcome (record { rank = rank; additions = additions; refuted = refuted }) ws' cs' ps' ≡ written w st ws cs ps
 written_is w st ws cs ps ws' cs' ps' rank additions refuted words constants basis rank_is additions_is refuted_is =
     rw (words, constants, basis, rank_is, additions_is, refuted_is) refl
 
@@ -123,19 +127,11 @@ module _ (n w t : ℕ) (ws cs ps ws' cs' ps' heads sources : List ℕ) (rank add
   unfolding row_at
   at_here = ap₂ (λ (l : List ℕ) (c : ℕ). record { atoms = atoms_of n (set_of (take w l)); constant = eqb c 1 }) so.ahead constant_here
 
-  pub clean_here : Clean n w t ws cs → Clean n w t ws' cs'
-  clean_here c = record {
-    words = omega (arith, so.words, c.words);
-    constants = omega (arith, so.constants, c.constants);
-    atoms = rw so.ahead c.atoms;
-    constant = rw (constant_here) c.constant;
-  }
-
   few_rows : length st.rows ≡ t
   unfolding st
   few_rows = ap length (sym so.rows) ∙ rows_length n w ws' cs' t
 
-  module _ (bound : n ≤ 512) (ws'' cs'' : List ℕ) (head lowest k : ℕ) (f : Finished n w t ws' cs' ws'' cs'' head lowest k) where
+  module _ (bound : n ≤ 512) (ws'' cs'' : List ℕ) (pivot : Option NewPivot) (k : ℕ) (f : Finished n w t ws' cs' ws'' cs'' pivot k) where
     left : Row
     left = row_at n w ws'' cs'' t
 
@@ -167,7 +163,7 @@ module _ (n w t : ℕ) (ws cs ps ws' cs' ps' heads sources : List ℕ) (rank add
 
     upto_next : (ps'' heads'' sources'' : List ℕ) (rank'' : ℕ) → length ps'' ≡ length ps → ps'' ≡ joined (empty left.atoms) t st.basis ++ drop rank'' ps
         → rank'' ≡ length (joined (empty left.atoms) t st.basis) → (empty left.atoms && left.constant) ≡ false
-        → Directory n w (suc t) ws'' cs'' heads'' sources'' → Upto n w (suc t) ws cs ps ws'' cs'' ps'' heads'' sources'' rank'' (additions + k)
+        → ListsPivots n w (suc t) ws'' cs'' heads'' sources'' → Upto n w (suc t) ws cs ps ws'' cs'' ps'' heads'' sources'' rank'' (additions + k)
     unfolding st
     upto_next ps'' heads'' sources'' rank'' entries basis rank_is going directory = record {
       words = f.only.words ∙ so.words;
@@ -182,26 +178,34 @@ module _ (n w t : ℕ) (ws cs ps ws' cs' ps' heads sources : List ℕ) (rank add
       going = ap (λ (s : State). s.refuted) next_is ∙ going;
       directory = directory;
       few = few_next;
+      fits = f.fits so.fits;
     }
 
-    directory_here : Directory n w t ws'' cs'' heads sources
+    directory_here : ListsPivots n w t ws'' cs'' heads sources
     directory_here = directory_kept n w t ws' cs' ws'' cs'' heads sources f.only so.directory
 
     -- the row is left empty with constant 0
-    upto_empty : head ≡ 0 → (get_or cs'' t 0 ≡ 1 → ⊥) → Upto n w (suc t) ws cs ps ws'' cs'' ps' heads sources rank (additions + k)
+    empty_left : pivot ≡ None → empty left.atoms ≡ true
+    unfolding left
+    empty_left e = rw e at f.pivot_is
+
+    pub upto_empty : pivot ≡ None → (get_or cs'' t 0 ≡ 1 → ⊥) → Upto n w (suc t) ws cs ps ws'' cs'' ps' heads sources rank (additions + k)
     unfolding st left row_at
     upto_empty e ne =
-        let none = f.none_left e in
+        let none = empty_left e in
         upto_next ps' heads sources rank so.entries (so.basis ∙ ap (λ (b : Bool). joined b t st.basis ++ drop rank ps) (sym none))
         (so.rank_is ∙ ap (λ (b : Bool). length (joined b t st.basis)) (sym none))
         (ap (λ (b : Bool). b && left.constant) none ∙ ne_eqb (get_or cs'' t 0) 1 ne)
         (directory_empty n w t ws'' cs'' heads sources directory_here f.clean none)
 
     -- it has a new lowest atom
-    module _ (some-head : 0 < head) where
+    module _ (p : NewPivot) (pivot_is : pivot ≡ Some p) where
+      pub new_pivot : IsNewPivot n w t ws'' cs'' p.head p.lowest.0
+      new_pivot = rw pivot_is at f.pivot_is
+
       left_some : empty left.atoms ≡ false
       unfolding left
-      left_some = has_some (row_at n w ws'' cs'' t) lowest (f.pivot some-head).is
+      left_some = has_some (row_at n w ws'' cs'' t) p.lowest.0 new_pivot.is
 
       rank_next : length (after n w ws cs (suc t)).basis ≡ rank + 1
       unfolding st
@@ -217,46 +221,31 @@ module _ (n w t : ℕ) (ws cs ps ws' cs' ps' heads sources : List ℕ) (rank add
           let handed = rows_le n rs in
           omega (arith, rank_next, rows_length n w ws cs (suc t))
 
-      upto_pivot : rank < length ps → n ≤ w * 64
-          → Upto n w (suc t) ws cs ps ws'' cs'' (set ps' rank t) (set heads lowest head) (set sources lowest t) (rank + 1) (additions + k)
+      pub upto_pivot : rank < length ps → n ≤ w * 64
+          → Upto n w (suc t) ws cs ps ws'' cs'' (set ps' rank t) (set heads p.lowest.0 p.head) (set sources p.lowest.0 t) (rank + 1) (additions + k)
       unfolding st left
       upto_pivot room wide =
           let split : ps' ≡ st.basis ++ get_or ps rank 0 ∷ drop (suc rank) ps = so.basis ∙ ap (λ (l : List ℕ). st.basis ++ l) (drop-cons ps rank 0 room) in
-          upto_next (set ps' rank t) (set heads lowest head) (set sources lowest t) (rank + 1) (simp length-set so.entries)
+          upto_next (set ps' rank t) (set heads p.lowest.0 p.head) (set sources p.lowest.0 t) (rank + 1) (simp length-set so.entries)
           (ap (λ (l : List ℕ). set l rank t) split ∙ set_at st.basis (get_or ps rank 0) (drop (suc rank) ps) t rank (sym so.rank_is)
           ∙ sym (append_snoc st.basis t (drop (suc rank) ps))
           ∙ ap₂ (λ (b : Bool) (i : ℕ). joined b t st.basis ++ drop i ps) (sym left_some) (sym (add-one rank)))
           (ap (λ (i : ℕ). i + 1) so.rank_is ∙ sym (length-append st.basis (t ∷ [])) ∙ ap (λ (b : Bool). length (joined b t st.basis)) (sym left_some))
           (ap (λ (b : Bool). b && left.constant) left_some)
-          (directory_pivot n w t ws'' cs'' heads sources directory_here f.clean wide head lowest some-head (f.pivot some-head))
-
-    -- either of the two, as `enter` leaves it
-    pub upto_turn : (eqb head 0 && eqb (get_or cs'' t 0) 1) ≡ false → (m : ℕ) → t < m → min m n ≤ length ps → n ≤ w * 64
-        → Upto n w (suc t) ws cs ps ws'' cs'' (cond (eqb head 0) ps' (set ps' rank t)) (cond (eqb head 0) heads (set heads lowest head))
-        (cond (eqb head 0) sources (set sources lowest t)) (cond (eqb head 0) rank (rank + 1)) (additions + k)
-    upto_turn sound m h room wide = go (eqb head 0) refl
-      where
-        go : (b : Bool) → eqb head 0 ≡ b
-            → Upto n w (suc t) ws cs ps ws'' cs'' (cond b ps' (set ps' rank t)) (cond b heads (set heads lowest head)) (cond b sources (set sources lowest t)) (cond b rank (rank + 1)) (additions + k)
-        go true e =
-            upto_empty (eqb-true head 0 e) (eqb-false (get_or cs'' t 0) 1 (ap (λ (b : Bool). b && eqb (get_or cs'' t 0) 1) (sym e) ∙ sound))
-        go false e =
-            let some-head : 0 < head = omega (arith, eqb-false head 0 e) in
-            upto_pivot some-head (omega (arith, pivot_room some-head m h)) wide
+          (directory_pivot n w t ws'' cs'' heads sources directory_here f.clean wide p.head p.lowest.0 new_pivot)
 
     -- the row is left empty with constant 1: the end
-    pub upto_refuted : (m : ℕ) → t < m → (eqb head 0 && eqb (get_or cs'' t 0) 1) ≡ true → ((i : ℕ) → get_or ws'' i 0 < 2 ^ 64)
-        → outcome (record { number = 0; rank = rank; additions = additions + k; refuted = true }) ws'' cs'' ps' ≡ written w (after n w ws cs m) ws cs ps
+    pub upto_refuted : (m : ℕ) → t < m → pivot ≡ None → get_or cs'' t 0 ≡ 1
+        → outcome (record { rank = rank; additions = additions + k; refuted = true }) ws'' cs'' ps' ≡ written w (after n w ws cs m) ws cs ps
     unfolding st left row_at
-    upto_refuted m h both fits =
-        let tests = (and-eq-true_iff (eqb head 0) (eqb (get_or cs'' t 0) 1)).0 both in
-        let none = f.none_left (eqb-true head 0 tests.0) in
+    upto_refuted m h e one =
+        let none = empty_left e in
         let end : State = next st (left, k) in
-        let refuted : end.refuted ≡ true = ap (λ (b : Bool). b && left.constant) none ∙ tests.1 in
+        let refuted : end.refuted ≡ true = ap (λ (b : Bool). b && left.constant) none ∙ eq-eqb (get_or cs'' t 0) 1 one in
         let last : (m - suc t) + suc t ≡ m = omega arith in
         let stays : after n w ws cs m ≡ end =
         ap (after n w ws cs) (sym last) ∙ stuck n w ws cs (suc t) (m - suc t) (ap (λ (s : State). s.refuted) next_is ∙ refuted) ∙ next_is in
-        let words = words_whole n w (suc t) ws cs ws'' cs'' end.rows rows_next clean_next (omega (arith, suc-mul t w, f.clean.words)) fits ahead_next in
+        let words = words_whole n w (suc t) ws cs ws'' cs'' end.rows rows_next clean_next (omega (arith, suc-mul t w, f.clean.words)) (f.fits so.fits) ahead_next in
         let constants = constants_whole n w (suc t) ws cs ws'' cs'' end.rows rows_next clean_next f.clean.constants ahead_next' in
         let basis : st.basis ≡ end.basis = ap (λ (b : Bool). joined b (length st.rows) st.basis) (sym none) in
         written_is w end ws cs ps ws'' cs'' ps' rank (additions + k) true words constants (so.basis ∙ ap (λ (l : List ℕ). l ++ drop rank ps) basis)
@@ -264,10 +253,10 @@ module _ (n w t : ℕ) (ws cs ps ws' cs' ps' heads sources : List ℕ) (rank add
         ∙ ap (λ (s : State). written w s ws cs ps) (sym stays)
 
   -- every row is done
-  pub upto_end : t * w ≤ length ws → t ≤ length cs → ((i : ℕ) → get_or ws' i 0 < 2 ^ 64)
-      → outcome (record { number = 0; rank = rank; additions = additions; refuted = false }) ws' cs' ps' ≡ written w (after n w ws cs t) ws cs ps
+  pub upto_end : t * w ≤ length ws → t ≤ length cs
+      → outcome (record { rank = rank; additions = additions; refuted = false }) ws' cs' ps' ≡ written w (after n w ws cs t) ws cs ps
   unfolding st
-  upto_end room room' fits =
-      let words = words_whole n w t ws cs ws' cs' st.rows so.rows so.directory.clean (omega (arith, so.words)) fits so.ahead in
+  upto_end room room' =
+      let words = words_whole n w t ws cs ws' cs' st.rows so.rows so.directory.clean (omega (arith, so.words)) so.fits so.ahead in
       let constants = constants_whole n w t ws cs ws' cs' st.rows so.rows so.directory.clean (omega (arith, so.constants)) so.ahead' in
       written_is w st ws cs ps ws' cs' ps' rank additions false words constants so.basis so.rank_is so.additions_is (sym so.going)

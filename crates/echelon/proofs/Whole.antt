@@ -1,6 +1,6 @@
 -- `eliminate` as a whole: refused with nothing touched, or the rows done.
 use Prim.Native.Nat.{ℕ, ◌+◌, ◌*◌, ◌≤◌, ◌<◌, min}
-use mathlib.Core.Path.{◌≡◌, sym, ap, ◌∙◌}
+use mathlib.Core.Path.{◌≡◌, refl, ap, ◌∙◌}
 use mathlib.Core.List.{List}
 use native.Mathlib.Nat.{suc-mul, mul-le-mul_right}
 use native.Mathlib.Omega.{arith}
@@ -8,11 +8,15 @@ use borrow.Author.Tests.{ltb-false}
 use lib.ListN.{length}
 use lib.Dec.{ltb}
 use Rattle.rows.specs.Flat.{width_of}
-use Rattle.fit.specs.Refusal.{or_refused}
-use Rattle.fit.proofs.Fitting.{Fit, joined_fit, refused_is}
+use Rattle.std.specs.Prelude.{Result, Ok, Err}
+use Rattle.refusal.specs.Refusal.{answered, left}
+use Rattle.refusal.specs.declared.Refusal.{Refusal}
+use Rattle.fit.proofs.Fitting.{Fit, joined_fit}
 use Rattle.echelon.specs.Forward.{eliminated}
-use Rattle.echelon.specs.Eliminate.{Outcome, rows_to, written, refused, eliminate_unfit, eliminate_of}
-use Rattle.echelon.specs.Steps.{Clean}
+use Rattle.echelon.specs.Eliminate.{Outcome, outcome, rows_to, written, eliminate_check, eliminate_of}
+use Rattle.echelon.specs.declared.Eliminated.{Eliminated}
+use Rattle.echelon.specs.declared.shape.Shape.{Shape}
+use Rattle.echelon.specs.Steps.{Clean, Ready}
 
 -- a row of fit ones lies within
 pub row_room : (r m w : ℕ) → r < m → r * w + w ≤ m * w
@@ -26,20 +30,65 @@ fit_clean n m ws cs fit r h = record {
   constant = fit.small r h;
 }
 
-module _ (n m : ℕ) (ws cs ps : List ℕ) (k : ℕ) (is : k ≡ eliminate_unfit n m ws cs ps) where
-  st : Outcome
-  st = written (width_of n) (eliminated n (rows_to n (width_of n) ws cs m)) ws cs ps
+abbrev Answer : Type 0
+Answer = Result Eliminated Refusal
 
-  pub not_fit : (k ≡ 0 → ⊥) → refused ws cs ps k ≡ eliminate_of n m ws cs ps
-  unfolding eliminate_of st
-  not_fit ne = refused_is k st (refused ws cs ps) ne ∙ ap (λ (j : ℕ). or_refused j st (refused ws cs ps)) is
+ok_same : (a b : Eliminated) → ◌≡◌ {A = Answer} (Ok a) (Ok b) → a ≡ b
+ok_same a b e = cc
 
-  pub done_is : k ≡ 0 → written (width_of n) (eliminated n (rows_to n (width_of n) ws cs m)) ws cs ps ≡ eliminate_of n m ws cs ps
-  unfolding eliminate_of st
-  done_is e = ap (λ (j : ℕ). or_refused j st (refused ws cs ps)) (sym e ∙ is)
+other : (refusal : Refusal) (done : Eliminated) → ◌≡◌ {A = Answer} (Err refusal) (Ok done) → ⊥
+other refusal done e = cc
 
-  pub fit_here : k ≡ 0 → Fit n m ws cs × (min m n ≤ length ps)
-  unfolding eliminate_unfit
-  fit_here e =
-      let joined = joined_fit n m ws cs (ltb (length ps) (min m n)) (sym is ∙ e) in
+same : (done : Eliminated) (ws cs ps : List ℕ) (o : Outcome Eliminated)
+    → outcome {R = Answer} (Ok done) ws cs ps ≡ outcome (Ok o.result) o.rows o.constants o.basis → outcome done ws cs ps ≡ o
+same done ws cs ps o e =
+    let result = ok_same done o.result (ap (λ (p : Outcome Answer). p.result) e) in
+    let rows : ws ≡ o.rows = ap (λ (p : Outcome Answer). p.rows) e in
+    let constants : cs ≡ o.constants = ap (λ (p : Outcome Answer). p.constants) e in
+    let basis : ps ≡ o.basis = ap (λ (p : Outcome Answer). p.basis) e in
+    rw (result, rows, constants, basis) refl
+
+module _ (n m : ℕ) (ws cs ps : List ℕ) (e : eliminate_check n m ws cs ps ≡ Ok tt) where
+  pub fit_here : Fit n m ws cs × (min m n ≤ length ps)
+  unfolding eliminate_check
+  fit_here =
+      let joined = joined_fit n m ws cs (ltb (length ps) (min m n)) e in
       (joined.0, ltb-false (length ps) (min m n) joined.1)
+
+  -- what is fit is answered with what is written
+  pub done_is : (done : Eliminated) (ws' cs' ps' : List ℕ) → outcome (Ok done) ws' cs' ps' ≡ eliminate_of n m ws cs ps
+      → outcome done ws' cs' ps' ≡ written (width_of n) (eliminated n (rows_to n (width_of n) ws cs m)) ws cs ps
+  unfolding eliminate_of
+  done_is done ws' cs' ps' answer =
+      let o = written (width_of n) (eliminated n (rows_to n (width_of n) ws cs m)) ws cs ps in
+      same done ws' cs' ps' o
+      (answer ∙ ap (λ check. outcome (answered check o.result) (left check o.rows ws) (left check o.constants cs) (left check o.basis ps)) e)
+
+  -- and is not refused
+  pub not_refused : (refusal : Refusal) (ws' cs' ps' : List ℕ) → outcome (Err refusal) ws' cs' ps' ≡ eliminate_of n m ws cs ps → ⊥
+  unfolding eliminate_of
+  not_refused refusal ws' cs' ps' answer =
+      let o = written (width_of n) (eliminated n (rows_to n (width_of n) ws cs m)) ws cs ps in
+      other refusal o.result
+      (ap (λ p. p.result) (answer ∙ ap (λ check. outcome (answered check o.result) (left check o.rows ws) (left check o.constants cs) (left check o.basis ps)) e))
+
+-- the rows as they are lent
+pub ready_here : (n m : ℕ) (ws cs ps : List ℕ) (shape : Shape) → eliminate_check n m ws cs ps ≡ Ok tt → shape.atoms ≡ n → Ready shape m ws cs ps
+ready_here n m ws cs ps shape fits atoms =
+    let wide : shape.width ≡ width_of n = rw (← atoms) shape.wide in
+    let fit = fit_here n m ws cs ps fits in
+    record {
+      few = fit.0.rows;
+      words = rw wide fit.0.words;
+      constants = fit.0.constants;
+      entries = rw atoms fit.1;
+      clean = rw (atoms, wide) (fit_clean n m ws cs fit.0);
+    }
+
+-- and as they are left
+pub left_there : (n m : ℕ) (ws cs ps : List ℕ) (o : Outcome Eliminated) (shape : Shape) → shape.atoms ≡ n
+    → o ≡ written shape.width (eliminated shape.atoms (rows_to shape.atoms shape.width ws cs m)) ws cs ps
+    → o ≡ written (width_of n) (eliminated n (rows_to n (width_of n) ws cs m)) ws cs ps
+left_there n m ws cs ps o shape atoms done =
+    let wide : shape.width ≡ width_of n = rw (← atoms) shape.wide in
+    rw (wide, atoms) at done

@@ -1,11 +1,21 @@
-// One row reduced: "while a row has a lowest atom whose pivot is an earlier row, that row is added". The directory has, for each atom with a
-// pivot, the pivot's number and its word with that atom (its head); the word under work stays in a local, and only later words are added
-// in memory.
-ghost use Rattle.std.specs.Prelude.{◌≡◌, ◌+◌, ◌*◌, ◌≤◌, ◌<◌, length, get_or};
+// One row reduced: "while a row has a lowest atom whose pivot is an earlier row, that row is added". The word under work stays in a local,
+// and only later words are added in memory.
+ghost use Rattle.std.specs.Prelude.{◌≡◌, ◌==◌, not, ◌+◌, ◌*◌, ◌≤◌, ◌<◌, length, position, slice_index};
+ghost use Rattle.std.specs.Int.Count.{count_trailing_zeros};
 ghost use Rattle.rows.specs.Flat.{row};
-ghost use Rattle.echelon.specs.Steps.{added_from, Clean, EmptyTo, Directory, head_of, Reduced, Finished};
+ghost use Rattle.echelon.specs.Steps.{added_from, head_of, CleanRow, EmptyBefore, Listed, SameRows, ReducesWord, ReducesRow};
 
+use crate::directory::{Directory, NewPivot};
+use crate::shape::Shape;
 use rows::{Atom, Source};
+
+// The lent rows: `shape.width` words each, and their constants.
+#[derive(Drop)]
+pub struct Rows<'a> {
+    pub shape: Shape,
+    pub words: &'a mut [u64],
+    pub constants: &'a mut [u8],
+}
 
 // A word of a row as it is left, and the additions that it took.
 #[derive(Clone, Copy)]
@@ -14,152 +24,139 @@ struct LeftWord {
     additions: usize,
 }
 
-// A row as it is left: its lowest atom and the word that has it (0 where the row is empty), and the additions that it took.
+// A row as it is left: the pivot that it becomes, unless it is empty, and the additions that it took.
 #[derive(Clone, Copy)]
 pub struct LeftRow {
-    pub head: u64,
-    pub lowest: Atom,
+    pub pivot: Option<NewPivot>,
     pub additions: usize,
 }
 
-// The head of the pivot of the lowest atom of word i, or 0 where there is none.
-fn head_of(heads: &[u64], i: usize, word: u64) -> u64
-    requires { i * 64 + 64 ≤ length heads.now }
-    ensures { result ≡ head_of heads.now i word }
+// The pivot that a row becomes whose first word that is not empty is word i.
+fn new_pivot(i: usize, word: u64) -> NewPivot
+    requires { i < 8 }
+    ensures head { result.head ≡ word }
+    ensures lowest { result.lowest.0 ≡ i * 64 + count_trailing_zeros 64 word }
 {
-    if word == 0 {
-        return 0;
+    NewPivot {
+        head: word,
+        lowest: Atom(i * 64 + word.trailing_zeros() as usize),
     }
-    heads[i * 64 + u64::trailing_zeros(word) as usize]
 }
 
 // Adds the words of an earlier row from word i on to those of a later one.
-fn add_words(rows: &mut [u64], width: usize, target: Source, source: Source, i: usize)
-    requires { (source.0 < target.0) × (target.0 * width + width ≤ length rows.old) × (i ≤ width) }
-    ensures { rows.new ≡ added_from i width rows.old target.0 source.0 }
+fn add_words(words: &mut [u64], width: usize, target: Source, source: Source, i: usize)
+    requires earlier { source.0 < target.0 }
+    requires within { target.0 * width + width ≤ length words.old }
+    requires place { i ≤ width }
+    ensures { words.new ≡ added_from i width words.old target.0 source.0 }
 {
     let to = target.0 * width;
     let from = source.0 * width;
-    let mut k = i;
-    while k < width {
-        rows[to + k] = rows[to + k] ^ rows[from + k];
-        k += 1;
+    for k in i..width {
+        words[to + k] ^= words[from + k];
     }
 }
 
-// Reduces word i of a row whose words before it are empty, until the word is empty or its lowest atom has no pivot.
-fn reduce_word(
-    rows: &mut [u64],
-    constants: &mut [u8],
-    n: usize,
-    width: usize,
-    number: Source,
-    i: usize,
-    heads: &[u64],
-    sources: &[usize],
-) -> LeftWord
-    requires { (width ≤ 8) × (i < width) × Clean n width number.0 rows.old constants.old × EmptyTo width number.0 rows.old i × Directory n width number.0 rows.old constants.old heads.now sources.now }
-    ensures left { Reduced n width number.0 i rows.old constants.old rows.new constants.new result.additions }
-    ensures word { result.word ≡ get_or (row width rows.new number.0) i 0 }
-    ensures done { head_of heads.now i result.word ≡ 0 }
-{
-    let t = number.0;
-    let at = t * width + i;
-    let mut word = rows[at];
-    let mut additions = 0;
-    let mut head = head_of(heads, i, word);
-    while head != 0 {
-        let s = sources[i * 64 + u64::trailing_zeros(word) as usize];
-        word = word ^ head;
-        add_words(rows, width, number, Source(s), i + 1);
-        constants[t] = constants[t] ^ constants[s];
-        additions += 1;
-        head = head_of(heads, i, word);
+impl Rows<'_> {
+    // The first word of a row that is not empty.
+    fn first_word(&self, number: Source) -> Option<usize>
+        requires { CleanRow self.now number.0 }
+        ensures { result ≡ position (λ word. not (word == 0)) (row self.now.shape.width self.now.words.now number.0) }
+    {
+        let start = number.0 * self.shape.width;
+        self.words[start..start + self.shape.width]
+            .iter()
+            .position(|word| *word != 0)
     }
-    rows[at] = word;
-    LeftWord {
-        word: word,
-        additions: additions,
-    }
-}
 
-// The first word of a row that is not empty, or `width`.
-fn first_word(rows: &[u64], width: usize, number: Source) -> usize
-    requires { number.0 * width + width ≤ length rows.now }
-    ensures within { result ≤ width }
-    ensures before { EmptyTo width number.0 rows.now result }
-    ensures there { result < width → 0 < get_or rows.now (number.0 * width + result) 0 }
-{
-    let start = number.0 * width;
-    let mut i = 0;
-    while i < width {
-        if rows[start + i] != 0 {
-            return i;
+    // Reduces word i of a row whose words before it are empty, until the word is empty or its lowest atom has no pivot.
+    fn reduce_word<const N: usize>(
+        &mut self,
+        number: Source,
+        i: usize,
+        directory: &Directory<N>,
+    ) -> LeftWord
+        requires size { N ≤ 512 }
+        requires place { i < self.old.shape.width }
+        requires clean { CleanRow self.old number.0 }
+        requires empty { EmptyBefore self.old number.0 i }
+        requires listed { Listed self.old number.0 directory.now.heads directory.now.sources }
+        ensures same { SameRows self.old self.new }
+        ensures left { ReducesWord self.old self.new number.0 i result.additions }
+        ensures word { result.word ≡ slice_index self.new.words.now (number.0 * self.old.shape.width + i) }
+        ensures done { head_of directory.now.heads i result.word ≡ 0 }
+    {
+        let t = number.0;
+        let width = self.shape.width;
+        let words = &mut *self.words;
+        let constants = &mut *self.constants;
+        let at = t * width + i;
+        let mut word = words[at];
+        let mut additions = 0;
+        while let Some(pivot) = directory.pivot_of(i, word) {
+            word ^= pivot.head;
+            add_words(words, width, number, pivot.source, i + 1);
+            constants[t] ^= constants[pivot.source.0];
+            additions += 1;
         }
-        i += 1;
+        words[at] = word;
+        LeftWord { word, additions }
     }
-    i
-}
 
-// Reduces a row whose words before word `first` are empty, until its lowest atom has no pivot among the earlier rows, or it is empty.
-fn reduce_from(
-    rows: &mut [u64],
-    constants: &mut [u8],
-    n: usize,
-    width: usize,
-    number: Source,
-    first: usize,
-    heads: &[u64],
-    sources: &[usize],
-) -> LeftRow
-    requires { (width ≤ 8) × (first ≤ width) × Clean n width number.0 rows.old constants.old × EmptyTo width number.0 rows.old first × Directory n width number.0 rows.old constants.old heads.now sources.now }
-    ensures { Finished n width number.0 rows.old constants.old rows.new constants.new result.head result.lowest.0 result.additions }
-{
-    let mut i = first;
-    let mut additions = 0;
-    while i < width {
-        let left = reduce_word(rows, constants, n, width, number, i, heads, sources);
-        additions += left.additions;
-        if left.word != 0 {
-            return LeftRow {
-                head: left.word,
-                lowest: Atom(i * 64 + u64::trailing_zeros(left.word) as usize),
-                additions: additions,
-            };
+    // Reduces a row whose words before word `first` are empty, until its lowest atom has no pivot among the earlier rows, or it is empty.
+    fn reduce_from<const N: usize>(
+        &mut self,
+        number: Source,
+        first: usize,
+        directory: &Directory<N>,
+    ) -> LeftRow
+        requires size { N ≤ 512 }
+        requires place { first ≤ self.old.shape.width }
+        requires clean { CleanRow self.old number.0 }
+        requires empty { EmptyBefore self.old number.0 first }
+        requires listed { Listed self.old number.0 directory.now.heads directory.now.sources }
+        ensures same { SameRows self.old self.new }
+        ensures left { ReducesRow self.old self.new number.0 result.pivot result.additions }
+    {
+        let mut additions = 0;
+        for i in first..self.shape.width {
+            let left = self.reduce_word(number, i, directory);
+            additions += left.additions;
+            if left.word != 0 {
+                return LeftRow {
+                    pivot: Some(new_pivot(i, left.word)),
+                    additions,
+                };
+            }
         }
-        i += 1;
+        LeftRow {
+            pivot: None,
+            additions,
+        }
     }
-    LeftRow {
-        head: 0,
-        lowest: Atom(0),
-        additions: additions,
-    }
-}
 
-// Reduces a row until its lowest atom has no pivot among the earlier rows, or it is empty. Where it has none from the start, nothing is
-// added.
-pub fn reduce_row(
-    rows: &mut [u64],
-    constants: &mut [u8],
-    n: usize,
-    width: usize,
-    number: Source,
-    heads: &[u64],
-    sources: &[usize],
-) -> LeftRow
-    requires { (width ≤ 8) × (n ≤ width * 64) × Clean n width number.0 rows.old constants.old × Directory n width number.0 rows.old constants.old heads.now sources.now }
-    ensures { Finished n width number.0 rows.old constants.old rows.new constants.new result.head result.lowest.0 result.additions }
-{
-    let first = first_word(rows, width, number);
-    if first < width {
-        let word = rows[number.0 * width + first];
-        if head_of(heads, first, word) == 0 {
+    // Reduces a row until its lowest atom has no pivot among the earlier rows, or it is empty. Where it has none from the start, nothing is
+    // added.
+    pub fn reduce<const N: usize>(&mut self, number: Source, directory: &Directory<N>) -> LeftRow
+        requires size { N ≤ 512 }
+        requires clean { CleanRow self.old number.0 }
+        requires listed { Listed self.old number.0 directory.now.heads directory.now.sources }
+        ensures same { SameRows self.old self.new }
+        ensures left { ReducesRow self.old self.new number.0 result.pivot result.additions }
+    {
+        let Some(first) = self.first_word(number) else {
             return LeftRow {
-                head: word,
-                lowest: Atom(first * 64 + u64::trailing_zeros(word) as usize),
+                pivot: None,
                 additions: 0,
             };
+        };
+        let word = self.words[number.0 * self.shape.width + first];
+        match directory.pivot_of(first, word) {
+            Some(_) => self.reduce_from(number, first, directory),
+            None => LeftRow {
+                pivot: Some(new_pivot(first, word)),
+                additions: 0,
+            },
         }
     }
-    reduce_from(rows, constants, n, width, number, first, heads, sources)
 }

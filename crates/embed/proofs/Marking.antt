@@ -1,32 +1,27 @@
--- One turn of the loops of `embed`: a name looked at, an atom set, a row written.
-use Prim.Native.Nat.{ℕ, ◌+◌, ◌-◌, ◌/◌, ◌≤◌, ◌<◌}
+-- One turn of the loops of `embed`: an atom set, a row written.
+use Prim.Native.Nat.{ℕ, ◌+◌, ◌-◌, ◌/◌, ◌%◌, ◌≤◌, ◌<◌}
 use mathlib.Core.Path.{◌≡◌, sym, ap, ap₂, ◌∙◌}
 use mathlib.Core.List.{List, ◌++◌}
-use mathlib.Core.Bool.{true, cond, ◌&&◌}
 use native.Mathlib.Nat.{add-sub_cancel_left}
 use native.Mathlib.Numerals.{add-one}
 use native.Mathlib.Omega.{arith}
 use lib.ListN.{length, get_or, take, drop, drop_of_length-le}
 use lib.Seq.{drop-cons, drop-drop, take_at, drop_at, length-take-le}
 use borrow.Rule.Slice.PartMut.{put_mid, take_put}
-use lib.Dec.{ltb}
-use Rattle.words.specs.Set.{odd}
+use borrow.Author.Tests.{eq-eqb, ne_eqb}
 use Rattle.words.specs.Calls.{inserted}
-use Rattle.embed.specs.Written.{marked, names_within}
+use Rattle.embed.specs.Written.{marked}
 
-pub names_next : (w : ℕ) (names : List ℕ) (i : ℕ) → i < length names
-    → names_within w (drop i names) ≡ (ltb (get_or names i 0 / 64) w && names_within w (drop (i + 1) names))
-names_next w names i h = rw (add-one, drop-cons names i 0)
+module _ (names : List ℕ) (i c : ℕ) (ws ws' : List ℕ) (h : i < length names) where
+  pub marked_set : c % 2 ≡ 1 → ws' ≡ inserted ws (get_or names i 0) → marked (drop (i + 1) names) (c / 2) ws' ≡ marked (drop i names) c ws
+  unfolding marked
+  marked_set o e = rw (e, add-one, drop-cons names i 0) (rw (marked, eq-eqb _ _ o))
 
-pub names_end : (w : ℕ) (names : List ℕ) (i : ℕ) → length names ≤ i → names_within w (drop i names) ≡ true
-names_end w names i h = rw (drop_of_length-le names h)
+  pub marked_left : (c % 2 ≡ 1 → ⊥) → ws' ≡ ws → marked (drop (i + 1) names) (c / 2) ws' ≡ marked (drop i names) c ws
+  unfolding marked
+  marked_left o e = rw (e, add-one, drop-cons names i 0) (rw (marked, ne_eqb _ _ o))
 
-pub marked_next : (names : List ℕ) (i c : ℕ) (ws : List ℕ) → i < length names
-    → marked (drop i names) c ws ≡ marked (drop (i + 1) names) (c / 2) (cond (odd c) (inserted ws (get_or names i 0)) ws)
-unfolding marked
-marked_next names i c ws h = rw (add-one, drop-cons names i 0)
-
-pub marked_end : (names : List ℕ) (i c : ℕ) (ws : List ℕ) → length names ≤ i → marked (drop i names) c ws ≡ ws
+pub marked_end : (names : List ℕ) (i c : ℕ) (ws : List ℕ) → length names ≤ i → ws ≡ marked (drop i names) c ws
 unfolding marked
 marked_end names i c ws h = rw (drop_of_length-le names h)
 

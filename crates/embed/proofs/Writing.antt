@@ -4,16 +4,16 @@ use mathlib.Core.Path.{◌≡◌, refl, sym, ap, ap₂, ◌∙◌}
 use mathlib.Core.List.{List, [], ◌∷◌, ◌++◌, append-nil, append_assoc, map-append}
 use mathlib.Core.Bool.{Bool, true, false, cond, ◌&&◌, and-eq-true_iff}
 use native.Mathlib.Nat.{suc-mul, zero-mul, add-zero, add-mul, mul-le-mul_right}
-use native.Mathlib.Numerals.{add-one}
 use native.Mathlib.Omega.{arith}
 use borrow.Author.Tests.{leb-true}
 use lib.Dec.{leb}
-use lib.ListN.{length, take, drop, set, replicate, length-append, length-replicate, length-set, take-append-drop, length-map}
+use lib.ListN.{length, get_or, take, drop, set, replicate, length-append, length-replicate, length-set, take-append-drop, length-map}
 use lib.Seq.{length-take-le, drop-drop, take_at, drop_at, set_split}
+use Rattle.std.proofs.lemmas.List.{take_more, take_all}
 use Rattle.words.specs.Set.{odd}
 use Rattle.words.specs.Calls.{inserted}
 use Rattle.rows.specs.declared.Source.{Source}
-use Rattle.hull.specs.Propose.{limit}
+use Rattle.hull.specs.Propose.{limit, blank}
 use Rattle.embed.specs.Written.{marked, row_words, one_if, constants_of, written_words, written_constants}
 use Rattle.hull.specs.declared.LocalEquation.{LocalEquation}
 
@@ -75,54 +75,45 @@ module _ (ws : List ℕ) (x : ℕ) (p q : List ℕ) (fits : x + length p + lengt
       ∙ ap (λ (n : ℕ). take x ws ++ (p ++ q ++ drop n ws)) end
 
 -- after m turns: the first m equations are written from row f on
-pub record Writing (w : ℕ) (names : List ℕ) (es : List LocalEquation) (ws cs : List ℕ) (f : ℕ) (ws' cs' : List ℕ) (start at m : ℕ) : Type 0 where
-  pub start_is : start ≡ f * w + m * w
-  pub at_is : at ≡ f + m
+pub record Writing (w : ℕ) (names : List ℕ) (es : List LocalEquation) (ws cs : List ℕ) (f : ℕ) (ws' cs' : List ℕ) (m : ℕ) : Type 0 where
   pub kept : length ws' ≡ length ws
   pub kept' : length cs' ≡ length cs
   pub words : ws' ≡ written ws (f * w) (row_words w names (take m es))
   pub constants : cs' ≡ written cs f (constants_of (take m es))
 
-pub writing_start : (w : ℕ) (names : List ℕ) (es : List LocalEquation) (ws cs : List ℕ) (f : ℕ) → Writing w names es ws cs f ws cs (f * w) f 0
+pub writing_start : (w : ℕ) (names : List ℕ) (es : List LocalEquation) (ws cs : List ℕ) (f : ℕ) → Writing w names es ws cs f ws cs 0
 unfolding written row_words
-writing_start w names es ws cs f = record {
-  start_is = omega (arith, zero-mul w);
-  at_is = omega arith;
-  kept = refl;
-  kept' = refl;
-  words = none ws (f * w);
-  constants = none cs f;
-}
+writing_start w names es ws cs f = record { kept = refl; kept' = refl; words = none ws (f * w); constants = none cs f }
   where
     none : (l : List ℕ) (x : ℕ) → l ≡ take x l ++ drop (x + 0) l
     none l x = sym (take-append-drop x l) ∙ ap (λ (n : ℕ). take x l ++ drop n l) (sym (add-zero x))
 
-module _ (w : ℕ) (names : List ℕ) (es : List LocalEquation) (ws cs : List ℕ) (f : ℕ) (ws' cs' : List ℕ) (start at m : ℕ)
-    (few : m < length es) (words : (f + m) * w + w ≤ length ws) (constants : f + m < length cs) (so : Writing w names es ws cs f ws' cs' start at m) where
+module _ (w : ℕ) (names : List ℕ) (es : List LocalEquation) (ws cs : List ℕ) (f : ℕ) (ws' cs' : List ℕ) (m : ℕ)
+    (few : m < length es) (words : (f + m) * w + w ≤ length ws) (constants : f + m < length cs) (so : Writing w names es ws cs f ws' cs' m) where
   so_far : length (take m es) ≡ m
   so_far = length-take-le m es (omega arith)
 
-  pub writing_next : (e : LocalEquation) → take (suc m) es ≡ take m es ++ (e ∷ []) → (ws'' : List ℕ)
-      → ws'' ≡ take start ws' ++ (marked names e.coefficients (replicate w 0) ++ drop (start + w) ws')
-      → length ws'' ≡ length ws' → (v : ℕ) → v ≡ one_if e.constant → Writing w names es ws cs f ws'' (set cs' at v) (start + w) (at + 1) (m + 1)
-  writing_next e next ws'' is kept v constant =
+  abbrev e : LocalEquation
+  e = get_or es m blank
+
+  pub writing_next : (ws'' : List ℕ) → ws'' ≡ take ((f + m) * w) ws' ++ (marked names e.coefficients (replicate w 0) ++ drop ((f + m) * w + w) ws')
+      → length ws'' ≡ length ws' → (v : ℕ) → v ≡ one_if e.constant → Writing w names es ws cs f ws'' (set cs' (f + m) v) (m + 1)
+  writing_next ws'' is kept v constant =
       let p = row_words w names (take m es) in
       let q = marked names e.coefficients (replicate w 0) in
       let lp : length p ≡ m * w = row_words_length w names (take m es) ∙ ap (λ (n : ℕ). n * w) so_far in
       let lq : length q ≡ w = marked_length names e.coefficients (replicate w 0) ∙ length-replicate {A = ℕ} w 0 in
       let c = constants_of (take m es) in
       let lc : length c ≡ m = length-map (take m es) (λ (d : LocalEquation). one_if d.constant) ∙ so_far in
-      let there : at < length cs' = omega (arith, so.at_is, so.kept') in
-      let more : take m es ++ (e ∷ []) ≡ take (m + 1) es = sym next ∙ ap (λ (k : ℕ). take k es) (sym (add-one m)) in
-      let from : start ≡ f * w + length p = omega (arith, so.start_is) in
-      let to : start + w ≡ f * w + length p + length q = omega (arith, so.start_is) in
-      let at_from : at ≡ f + length c = omega (arith, so.at_is) in
-      let at-to : suc at ≡ f + length c + length (v ∷ []) = omega (arith, so.at_is) in
+      let there : f + m < length cs' = omega (arith, so.kept') in
+      let more : take m es ++ (e ∷ []) ≡ take (m + 1) es = sym (take_more es m blank few) in
+      let from : (f + m) * w ≡ f * w + length p = omega (arith, add-mul f m w, lp) in
+      let to : (f + m) * w + w ≡ f * w + length p + length q = omega (arith, add-mul f m w, lp, lq) in
+      let at_from : f + m ≡ f + length c = omega (arith, lc) in
+      let at-to : suc (f + m) ≡ f + length c + length (v ∷ []) = omega (arith, lc) in
       let room : f * w + length p + length q ≤ length ws = omega (arith, add-mul f m w) in
       let room' : f + length c + length (v ∷ []) ≤ length cs = omega arith in
       record {
-        start_is = omega (arith, so.start_is, suc-mul m w, ap (λ (k : ℕ). k * w) (add-one m));
-        at_is = omega (arith, so.at_is);
         kept = kept ∙ so.kept;
         kept' = simp length-set so.kept';
         words =
@@ -131,24 +122,25 @@ module _ (w : ℕ) (names : List ℕ) (es : List LocalEquation) (ws cs : List �
             ∙ written_more ws (f * w) p q room
             ∙ ap (written ws (f * w)) (sym (row_words_snoc w names (take m es) e) ∙ ap (row_words w names) more);
         constants =
-            set_split cs' at v there ∙ ap₂ (λ (a b : ℕ). take a cs' ++ ((v ∷ []) ++ drop b cs')) at_from at-to
+            set_split cs' (f + m) v there ∙ ap₂ (λ (a b : ℕ). take a cs' ++ ((v ∷ []) ++ drop b cs')) at_from at-to
             ∙ ap (λ (l : List ℕ). take (f + length c) l ++ ((v ∷ []) ++ drop (f + length c + length (v ∷ [])) l)) so.constants
             ∙ written_more cs f c (v ∷ []) room'
             ∙ ap (written cs f) (ap (λ (x : ℕ). c ++ (x ∷ [])) constant ∙ sym (constants_snoc (take m es) e) ∙ ap constants_of more);
       }
 
-module _ (w : ℕ) (names : List ℕ) (es : List LocalEquation) (ws cs : List ℕ) (f : Source) (ws' cs' : List ℕ) (start at m : ℕ)
-    (so : Writing w names es ws cs f.0 ws' cs' start at m) where
-  pub words_written : ws' ≡ written_words w ws (take m es) names f
+module _ (w : ℕ) (names : List ℕ) (es : List LocalEquation) (ws cs : List ℕ) (f : Source) (ws' cs' : List ℕ) (m : ℕ)
+    (so : Writing w names es ws cs f.0 ws' cs' m) (all : length es ≤ m) where
+  pub words_written : ws' ≡ written_words w ws es names f
   unfolding written written_words
   words_written =
-      so.words ∙ ap (λ (n : ℕ). take (f.0 * w) ws ++ (row_words w names (take m es) ++ drop (f.0 * w + n) ws)) (row_words_length w names (take m es))
+      so.words ∙ ap (λ (l : List LocalEquation). written ws (f.0 * w) (row_words w names l)) (take_all m es all)
+      ∙ ap (λ (n : ℕ). take (f.0 * w) ws ++ (row_words w names es ++ drop (f.0 * w + n) ws)) (row_words_length w names es)
 
-  pub constants_written : cs' ≡ written_constants cs (take m es) f
+  pub constants_written : cs' ≡ written_constants cs es f
   unfolding written written_constants
   constants_written =
-      so.constants
-      ∙ ap (λ (n : ℕ). take f.0 cs ++ (constants_of (take m es) ++ drop (f.0 + n) cs)) (length-map (take m es) (λ (d : LocalEquation). one_if d.constant))
+      so.constants ∙ ap (λ (l : List LocalEquation). written cs f.0 (constants_of l)) (take_all m es all)
+      ∙ ap (λ (n : ℕ). take f.0 cs ++ (constants_of es ++ drop (f.0 + n) cs)) (length-map es (λ (d : LocalEquation). one_if d.constant))
 
 -- ---- room
 

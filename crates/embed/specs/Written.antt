@@ -1,5 +1,6 @@
 -- What `embed` leaves: a hull's equations written as rows over the atoms named, from row `first` on.
-use Rattle.std.specs.Prelude.{ℕ, ◌+◌, ◌*◌, ◌/◌, List, [], ◌∷◌, ◌++◌, map, Bool, true, cond, ◌&&◌, length, take, drop, replicate, leb, ltb}
+use Rattle.std.specs.Prelude.{ℕ, ◌+◌, ◌*◌, ◌/◌, List, [], ◌∷◌, ◌++◌, map, Bool, cond, ◌&&◌, length, take, drop, replicate, leb, ltb}
+use Rattle.std.specs.List.{list_all}
 use Rattle.words.specs.Set.{odd}
 use Rattle.words.specs.Calls.{inserted}
 use Rattle.rows.specs.declared.Source.{Source}
@@ -22,8 +23,7 @@ one_if b = cond b 1 0
 
 -- Every atom named lies within a row.
 abbrev pub names_within : ℕ → List ℕ → Bool
-names_within w [] = true
-names_within w (a ∷ names) = ltb (a / 64) w && names_within w names
+names_within w names = list_all (λ a. ltb (a / 64) w) names
 
 -- Whether a hull's rows can be written: they lie within the rows and the constants lent, and the atoms within a row.
 abbrev pub writable : ℕ → List ℕ → List ℕ → Hull → List ℕ → Source → Bool

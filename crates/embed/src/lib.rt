@@ -2,34 +2,24 @@
 #![tactic(auto)]
 
 ghost use Rattle.std.specs.Prelude.{◌≡◌, ◌++◌, cond, ◌&&◌, ◌+◌, ◌*◌, ◌≤◌, length, take, drop, replicate, leb};
-ghost use Rattle.words.specs.Calls.{inserted};
 ghost use Rattle.hull.specs.Propose.{limit};
-ghost use Rattle.embed.specs.Written.{marked, names_within, one_if, writable, written_words, written_constants};
+ghost use Rattle.embed.specs.Written.{marked, names_within, writable, written_words, written_constants};
 
 use hull::{Hull, LocalEquation};
 use rows::Source;
 
 pub mod promises;
 
-// Sets the atom if it is wanted.
-fn mark_if(row: &mut [u64], wanted: bool, atom: usize)
-    ensures { row.new ≡ cond wanted (inserted row.old atom) row.old }
-{
-    if wanted {
-        words::insert(row, atom);
-    }
-}
-
 // Sets the atoms named by the set bits of the coefficients: bit i belongs to the i-th name.
 fn mark(row: &mut [u64], coefficients: u8, names: &[usize])
     ensures { row.new ≡ marked names.now coefficients row.old }
 {
     let mut rest = coefficients;
-    let mut i = 0;
-    while i < names.len() {
-        mark_if(row, rest % 2 == 1, names[i]);
-        rest = rest / 2;
-        i += 1;
+    for name in names {
+        if rest % 2 == 1 {
+            words::insert(row, *name);
+        }
+        rest /= 2;
     }
 }
 
@@ -46,14 +36,7 @@ fn write_row(rows: &mut [u64], start: usize, width: usize, coefficients: u8, nam
 fn names_within(names: &[usize], width: usize) -> bool
     ensures { result ≡ names_within width names.now }
 {
-    let mut i = 0;
-    while i < names.len() {
-        if width <= names[i] / 64 {
-            return false;
-        }
-        i += 1;
-    }
-    true
+    names.iter().all(|name| *name / 64 < width)
 }
 
 // Whether `count` rows from row `first` on lie within the rows and the constants; nothing that could wrap is worked out.
@@ -77,36 +60,24 @@ fn can_write(words: usize, constants: usize, width: usize, count: usize, first: 
     rows <= words / width
 }
 
-fn byte(b: bool) -> u8
-    ensures { result ≡ one_if b }
-{
-    if b { 1 } else { 0 }
-}
-
-// Writes the first `count` equations, one row after another.
+// Writes equations, one row after another.
 fn write_rows(
-    equations: [LocalEquation; 8],
-    count: usize,
+    equations: &[LocalEquation],
     names: &[usize],
     width: usize,
     rows: &mut [u64],
     constants: &mut [u8],
     first: Source,
 )
-    requires { (count ≤ 8) × (first.0 + count ≤ length constants.old) × ((first.0 + count) * width ≤ length rows.old) }
-    ensures words { rows.new ≡ written_words width rows.old (take count equations) names.now first }
-    ensures constants { constants.new ≡ written_constants constants.old (take count equations) first }
+    requires constants { first.0 + length equations.now ≤ length constants.old }
+    requires words { (first.0 + length equations.now) * width ≤ length rows.old }
+    ensures words { rows.new ≡ written_words width rows.old equations.now names.now first }
+    ensures constants { constants.new ≡ written_constants constants.old equations.now first }
 {
-    let mut at = first.0;
-    let mut start = at * width;
-    let mut m = 0;
-    while m < count {
-        let e = equations[m];
-        write_row(rows, start, width, e.coefficients, names);
-        constants[at] = byte(e.constant);
-        start += width;
-        at += 1;
-        m += 1;
+    for (i, equation) in equations.iter().enumerate() {
+        let row = first.0 + i;
+        write_row(rows, row * width, width, equation.coefficients, names);
+        constants[row] = u8::from(equation.constant);
     }
 }
 
@@ -130,7 +101,13 @@ pub fn write(
     if !names_within(names, width) {
         return false;
     }
-    let equations = hull.equations;
-    write_rows(equations, count, names, width, rows, constants, first);
+    write_rows(
+        &hull.equations[..count],
+        names,
+        width,
+        rows,
+        constants,
+        first,
+    );
     true
 }

@@ -1,47 +1,47 @@
--- How the answers of `words`, `rows`, `index`, `region` and `inspect` are told to C: one definition for each type.
+-- How the answers of `words`, `rows`, `hull`, `index`, `parity`, `region`, `snapshot`, `inspect` and `probe` are told to C: one definition for each type.
 -- The kinds: 0 an answer, with its value (of a yes or no: 1 or 0); 1 nothing there; 2 unfit, which is lengths that differ or a
 -- row or mask that is not there; 3 more bits than a usize numbers. A kind other than 0 has the value 0. Decisions and inspections have kinds
 -- of their own.
-use Rattle.std.specs.Prelude.{ℕ, ◌*◌, List, cond, eqb}
+use Rattle.std.specs.Prelude.{ℕ, ◌*◌, List, Bool, false, cond, replicate, Option, Some, None, Result, Ok, Err}
 use Rattle.words.specs.declared.Place.{Place}
 use Rattle.words.specs.declared.SetBits.{SetBits}
-use Rattle.words.specs.declared.Next.{Next}
-use Rattle.words.specs.declared.Next.TheVariants as next
-use Rattle.words.specs.declared.Found.{Found}
-use Rattle.words.specs.declared.Found.TheVariants as found
-use Rattle.words.specs.declared.Counted.{Counted}
-use Rattle.words.specs.declared.Counted.TheVariants as counted
-use Rattle.words.specs.declared.Verdict.{Verdict}
-use Rattle.words.specs.declared.Verdict.TheVariants as verdict
+use Rattle.words.specs.declared.Unfit.{Unfit}
+use Rattle.words.specs.declared.Unfit.TheVariants.{Unequal, TooWide}
 use Rattle.rows.specs.declared.Atom.{Atom}
 use Rattle.rows.specs.declared.Source.{Source}
 use Rattle.rows.specs.declared.Ordinal.{Ordinal}
-use Rattle.rows.specs.declared.Entry.{Entry}
-use Rattle.rows.specs.declared.Entry.TheVariants as entry
-use Rattle.rows.specs.declared.Lowest.{Lowest}
-use Rattle.rows.specs.declared.Lowest.TheVariants as lowest
-use Rattle.rows.specs.declared.Parity.{Parity}
-use Rattle.rows.specs.declared.Parity.TheVariants as parity
-use Rattle.rows.specs.declared.Overlap.{Overlap}
-use Rattle.rows.specs.declared.Overlap.TheVariants as shared
+use Rattle.rows.specs.declared.Outside.{Outside}
 use Rattle.rows.specs.Calls.{within}
+use Rattle.refusal.specs.Refusal.{number_of, number_in, answered, given_or}
+use Rattle.refusal.specs.declared.Refusal.{Refusal}
+use Rattle.hull.specs.Propose.{blank}
+use Rattle.hull.specs.declared.Hull.{Hull}
 use Rattle.index.specs.Index.{column_width}
-use Rattle.index.specs.Column.{column_unfit}
-use Rattle.region.specs.Calls.{answer_number}
-use Rattle.region.specs.declared.Decided.{Decided}
+use Rattle.index.specs.Column.{column_check}
+use Rattle.parity.specs.Prepare.{Lent}
+use Rattle.parity.specs.declared.Prepared.{Prepared as Preparation}
+use Rattle.region.specs.declared.Region.{Region}
 use Rattle.region.specs.declared.Answer.{Answer as Deciding}
-use Rattle.region.specs.declared.Answer.TheVariants as decision
-use Rattle.inspect.specs.Inspect.{step_number, Outcome}
+use Rattle.region.specs.declared.Answer.TheVariants.{Taken, Same, Against}
+use Rattle.snapshot.specs.declared.Snapshot.{Snapshot}
+use Rattle.snapshot.specs.declared.Ordinals.{Ordinals}
+use Rattle.inspect.specs.Inspect.{Outcome}
 use Rattle.inspect.specs.declared.Inspected.{Inspected}
 use Rattle.inspect.specs.declared.Step.{Step as Inspecting}
-use Rattle.inspect.specs.declared.Step.TheVariants as step
+use Rattle.inspect.specs.declared.Step.TheVariants.{Unchanged, Changed, Refuted}
+use Rattle.probe.specs.declared.Probed.{Probed as Probing}
 use Rattle.ffi.specs.declared.Answer.{Answer}
 use Rattle.ffi.specs.declared.Located.{Located}
 use Rattle.ffi.specs.declared.Step.{Step}
 use Rattle.ffi.specs.declared.Span.{Span}
+use Rattle.ffi.specs.declared.hulls.Proposal.{Proposal}
+use Rattle.ffi.specs.declared.prepares.Prepared.{Prepared}
+use Rattle.ffi.specs.declared.probes.Probed.{Probed}
+use Rattle.ffi.specs.declared.inspects.NewRegion.{NewRegion}
 use Rattle.ffi.specs.declared.inspects.Decision.{Decision}
+use Rattle.ffi.specs.declared.inspects.Published.{Published}
+use Rattle.ffi.specs.declared.inspects.Selected.{Selected}
 use Rattle.ffi.specs.declared.inspects.Inspection.{Inspection}
-use Rattle.ffi.specs.declared.inspects.Told.{Told}
 
 abbrev pub answer : ℕ → ℕ → Answer
 answer k v = record { kind = k; value = v }
@@ -65,44 +65,49 @@ atom_number n = record { 0 = n }
 abbrev pub located_answer : Place → Located
 located_answer p = record { word = p.word; bit = p.bit }
 
-abbrev pub next_answer : Next → Step
-next_answer (next.Bit b rest) = record { kind = 0; bit = b; remaining = rest.remaining }
-next_answer next.Done = record { kind = 1; bit = 0; remaining = 0 }
+-- A step of a visit: the bit it gave, if one was left, and what is left then.
+abbrev pub next_answer : Option ℕ × SetBits → Step
+next_answer (Some b, rest) = record { kind = 0; bit = b; remaining = rest.remaining }
+next_answer (None, rest) = record { kind = 1; bit = 0; remaining = 0 }
 
-abbrev pub found_answer : Found → Answer
-found_answer (found.At a) = answer 0 a
-found_answer found.Nothing = answer 1 0
-found_answer found.TooWide = answer 3 0
+abbrev pub yes_answer : Bool → Answer
+yes_answer b = answer 0 (cond b 1 0)
 
-abbrev pub counted_answer : Counted → Answer
-counted_answer (counted.Are n) = answer 0 n
-counted_answer counted.Unequal = answer 2 0
-counted_answer counted.TooWide = answer 3 0
+abbrev pub unfit_answer : Unfit → Answer
+unfit_answer Unequal = answer 2 0
+unfit_answer TooWide = answer 3 0
 
-abbrev pub verdict_answer : Verdict → Answer
-verdict_answer verdict.Yes = answer 0 1
-verdict_answer verdict.No = answer 0 0
-verdict_answer verdict.Unequal = answer 2 0
+abbrev pub found_answer : Result (Option ℕ) Unfit → Answer
+found_answer (Ok (Some a)) = answer 0 a
+found_answer (Ok None) = answer 1 0
+found_answer (Err e) = unfit_answer e
+
+abbrev pub counted_answer : Result ℕ Unfit → Answer
+counted_answer (Ok n) = answer 0 n
+counted_answer (Err e) = unfit_answer e
+
+abbrev pub verdict_answer : Result Bool Unfit → Answer
+verdict_answer (Ok b) = yes_answer b
+verdict_answer (Err e) = unfit_answer e
 
 -- ---- the answers of `rows`
 
-abbrev pub entry_answer : Entry → Answer
-entry_answer (entry.Names s) = answer 0 s.0
-entry_answer entry.Nothing = answer 1 0
+abbrev pub entry_answer : Option Source → Answer
+entry_answer (Some s) = answer 0 s.0
+entry_answer None = answer 1 0
 
-abbrev pub lowest_answer : Lowest → Answer
-lowest_answer (lowest.At a) = answer 0 a.0
-lowest_answer lowest.Empty = answer 1 0
-lowest_answer lowest.Outside = answer 2 0
+abbrev pub lowest_answer : Result (Option Atom) Outside → Answer
+lowest_answer (Ok (Some a)) = answer 0 a.0
+lowest_answer (Ok None) = answer 1 0
+lowest_answer (Err e) = answer 2 0
 
-abbrev pub parity_answer : Parity → Answer
-parity_answer parity.Even = answer 0 0
-parity_answer parity.Odd = answer 0 1
-parity_answer parity.Outside = answer 2 0
+abbrev pub parity_answer : Result Bool Outside → Answer
+parity_answer (Ok b) = yes_answer b
+parity_answer (Err e) = answer 2 0
 
-abbrev pub overlap_answer : Overlap → Answer
-overlap_answer (shared.Atoms n) = answer 0 n
-overlap_answer shared.Outside = answer 2 0
+abbrev pub overlap_answer : Result ℕ Outside → Answer
+overlap_answer (Ok n) = answer 0 n
+overlap_answer (Err e) = answer 2 0
 
 -- Where a row lies among the words: kind 0 with its start and its length, or kind 2.
 unfoldable pub span_of : ℕ → List ℕ → Source → Span
@@ -112,40 +117,71 @@ span_of w ws r =
 -- Where an atom's column lies in the index: kind 0 with its start and its length, or kind 2 where it is refused.
 unfoldable pub column_span_of : List ℕ → ℕ → ℕ → Atom → Span
 column_span_of index n rank a =
-    cond (eqb (column_unfit index n rank a) 0)
-    (record { kind = 0; start = a.0 * column_width rank; length = column_width rank })
+    given_or
+    (answered (column_check index n rank a) (record { kind = 0; start = a.0 * column_width rank; length = column_width rank }))
     (record { kind = 2; start = 0; length = 0 })
 
--- ---- the answers of `region` and `inspect`: their kinds, and document 01's number
+-- ---- the answers that document 01's numbers refuse: "a refused call returns its number, 0 in every other field, and the region as passed"
 
-abbrev pub decision_kind : Deciding → ℕ
-decision_kind decision.Taken = 0
-decision_kind decision.Same = 1
-decision_kind decision.Against = 2
-decision_kind (decision.Refused number) = 3
+abbrev pub proposal_answer : Result Hull Refusal → Proposal
+proposal_answer (Ok h) = record { number = 0; hull = h }
+proposal_answer (Err refusal) =
+    record { number = number_of refusal; hull = record { equations = replicate 8 blank; count = 0; exact = false } }
 
-abbrev pub decision_answer : Deciding → Told
-decision_answer a = record { kind = decision_kind a; number = answer_number a }
+abbrev pub prepared_told : Result Preparation Refusal → Prepared
+prepared_told (Ok p) =
+    record { number = 0; system = p.system; additions = p.additions; units = p.units; incidences = p.incidences }
+prepared_told (Err refusal) = record {
+  number = number_of refusal;
+  system = record { atoms = 0; rows = 0; rank = 0; refuted = false };
+  additions = 0;
+  units = 0;
+  incidences = 0;
+}
 
-abbrev pub decided_answer : Decided → Decision
-decided_answer d =
-    let told = decision_answer d.answer in
-    record { kind = told.kind; number = told.number; region = d.region }
+-- A preparation's answer, beside the lent memory as it is then.
+abbrev pub prepared_answer : Result Preparation Refusal × Lent → Prepared × Lent
+prepared_answer (answer, left) = (prepared_told answer, left)
+
+abbrev pub new_region_answer : Result Region Refusal → NewRegion
+new_region_answer (Ok r) = record { number = 0; region = r }
+new_region_answer (Err refusal) =
+    record { number = number_of refusal; region = record { atoms = 0; held = replicate 8 0; cut = replicate 8 0 } }
+
+abbrev pub decision_kind : Result Deciding Refusal → ℕ
+decision_kind (Ok Taken) = 0
+decision_kind (Ok Same) = 1
+decision_kind (Ok Against) = 2
+decision_kind (Err refusal) = 3
+
+-- A decision's answer, and the region as it is then.
+abbrev pub decided_answer : Result Deciding Refusal × Region → Decision
+decided_answer (answer, r) = record { kind = decision_kind answer; number = number_in answer; region = r }
+
+-- A publication's answer, and the knowledge as it is then.
+abbrev pub published_answer : Result Unit Refusal × Snapshot → Published
+published_answer (answer, known) = record { number = number_in answer; known = known }
+
+abbrev pub selected_answer : Result Ordinals Refusal → Selected
+selected_answer (Ok rows) = record { number = 0; rows = rows }
+selected_answer (Err refusal) = record { number = number_of refusal; rows = record { words = replicate 8 0 } }
 
 abbrev pub step_kind : Inspecting → ℕ
-step_kind step.Unchanged = 0
-step_kind step.Changed = 1
-step_kind step.Refuted = 2
-step_kind (step.Refused number) = 3
+step_kind Unchanged = 0
+step_kind Changed = 1
+step_kind Refuted = 2
 
-abbrev pub step_answer : Inspecting → Told
-step_answer a = record { kind = step_kind a; number = step_number a }
+-- An inspection's answer, of the region and the knowledge that were passed.
+abbrev pub inspected_answer : Region → Snapshot → Result Inspected Refusal → Inspection
+inspected_answer r known (Ok i) =
+    record { kind = step_kind i.answer; number = 0; held = i.held; cut = i.cut; forced = i.forced; region = i.region; known = i.known }
+inspected_answer r known (Err refusal) =
+    record { kind = 3; number = number_of refusal; held = 0; cut = 0; forced = 0; region = r; known = known }
 
-abbrev pub inspected_answer : Inspected → Inspection
-inspected_answer i =
-    let told = step_answer i.answer in
-    record { kind = told.kind; number = told.number; held = i.held; cut = i.cut; forced = i.forced; region = i.region; known = i.known }
+-- An inspection's answer, beside the lent lists of forced atoms and values as they are then.
+abbrev pub outcome_answer : Region → Snapshot → Outcome (Result Inspected Refusal) → Inspection × (List ℕ × List ℕ)
+outcome_answer r known o = (inspected_answer r known o.result, (o.atoms, o.values))
 
--- An inspection's result, beside the lent lists of forced atoms and values as they are then.
-abbrev pub outcome_answer : Outcome → Inspection × (List ℕ × List ℕ)
-outcome_answer o = (inspected_answer o.result, (o.atoms, o.values))
+abbrev pub probed_answer : Result Probing Refusal → Probed
+probed_answer (Ok p) = record { number = 0; yes = p.yes; undecided = p.undecided; kept = p.kept }
+probed_answer (Err refusal) = record { number = number_of refusal; yes = false; undecided = 0; kept = 0 }

@@ -1,2 +1,3 @@
 -- What the contracts of `ffi` cite.
 pub mod Answers
+pub mod Files

@@ -4,13 +4,22 @@ ghost use Rattle.region.specs.Calls.{undecided_of, hold_of, cut_of};
 ghost use Rattle.snapshot.specs.Knowledge.{fresh, publish_of};
 ghost use Rattle.snapshot.specs.Touch.{selected_of};
 ghost use Rattle.inspect.specs.Inspect.{filled, inspect_of};
-ghost use Rattle.ffi.specs.Answers.{atom_number, decision_answer, decided_answer, step_answer, inspected_answer, outcome_answer};
+ghost use Rattle.ffi.specs.Answers.{atom_number, new_region_answer, decided_answer, published_answer, selected_answer, step_kind, inspected_answer, outcome_answer};
 
 use inspect::{Inspected, Step};
 use parity::System;
-use region::{Answer, Decided, NewRegion, Region};
+use refusal::Refusal;
+use region::{Answer, Region};
 use rows::Atom;
-use snapshot::{Published, Selected, Snapshot};
+use snapshot::{Ordinals, Snapshot};
+
+// A new region with number 0, or the number under which it is refused.
+#[repr(C)]
+#[derive(Clone, Copy)]
+pub struct NewRegion {
+    pub number: usize,
+    pub region: Region,
+}
 
 // A decision: kind 0 taken, 1 same, 2 against, or 3 refused with its number; and the region as it is then.
 #[repr(C)]
@@ -19,6 +28,22 @@ pub struct Decision {
     pub kind: usize,
     pub number: usize,
     pub region: Region,
+}
+
+// Knowledge after a publication, beside the number under which it is refused, or 0.
+#[repr(C)]
+#[derive(Clone, Copy)]
+pub struct Published {
+    pub number: usize,
+    pub known: Snapshot,
+}
+
+// The basis rows that are touched, beside the number under which the call is refused, or 0.
+#[repr(C)]
+#[derive(Clone, Copy)]
+pub struct Selected {
+    pub number: usize,
+    pub rows: Ordinals,
 }
 
 // An inspection: kind 0 unchanged, 1 changed, 2 refuted, or 3 refused with its number; how many atoms it held and cut, how long the
@@ -35,83 +60,111 @@ pub struct Inspection {
     pub known: Snapshot,
 }
 
-// Kind and number of an answer.
-#[derive(Clone, Copy)]
-struct Told {
-    kind: usize,
-    number: usize,
-}
+impl From<Result<Region, Refusal>> for NewRegion {
+    ghost from_gives = { λ answer told. told ≡ new_region_answer answer };
 
-fn decision_answer(answer: Answer) -> Told
-    ensures { result ≡ decision_answer answer }
-{
-    match answer {
-        Answer::Taken => Told { kind: 0, number: 0 },
-        Answer::Same => Told { kind: 1, number: 0 },
-        Answer::Against => Told { kind: 2, number: 0 },
-        Answer::Refused(number) => Told { kind: 3, number },
+    fn from(answer: Result<Region, Refusal>) -> NewRegion {
+        match answer {
+            Ok(region) => NewRegion { number: 0, region },
+            Err(refusal) => NewRegion {
+                number: refusal.number(),
+                region: Region {
+                    atoms: 0,
+                    held: [0; 8],
+                    cut: [0; 8],
+                },
+            },
+        }
     }
 }
 
-fn decided_answer(decided: Decided) -> Decision
-    ensures { result ≡ decided_answer decided }
+impl From<Result<Ordinals, Refusal>> for Selected {
+    ghost from_gives = { λ answer told. told ≡ selected_answer answer };
+
+    fn from(answer: Result<Ordinals, Refusal>) -> Selected {
+        match answer {
+            Ok(rows) => Selected { number: 0, rows },
+            Err(refusal) => Selected {
+                number: refusal.number(),
+                rows: Ordinals { words: [0; 8] },
+            },
+        }
+    }
+}
+
+// A decision's answer, with the region as it is then: of two values, so no From.
+fn decided(answer: Result<Answer, Refusal>, region: Region) -> Decision
+    ensures { result ≡ decided_answer (answer, region) }
 {
-    let answer = decided.answer;
-    let region = decided.region;
-    let told = decision_answer(answer);
+    let (kind, number) = match answer {
+        Ok(Answer::Taken) => (0, 0),
+        Ok(Answer::Same) => (1, 0),
+        Ok(Answer::Against) => (2, 0),
+        Err(refusal) => (3, refusal.number()),
+    };
     Decision {
-        kind: told.kind,
-        number: told.number,
+        kind,
+        number,
         region,
     }
 }
 
-fn step_answer(step: Step) -> Told
-    ensures { result ≡ step_answer step }
+// The kind of an inspection that is not refused.
+fn step_kind(step: Step) -> usize
+    ensures { result ≡ step_kind step }
 {
     match step {
-        Step::Unchanged => Told { kind: 0, number: 0 },
-        Step::Changed => Told { kind: 1, number: 0 },
-        Step::Refuted => Told { kind: 2, number: 0 },
-        Step::Refused(number) => Told { kind: 3, number },
+        Step::Unchanged => 0,
+        Step::Changed => 1,
+        Step::Refuted => 2,
     }
 }
 
-fn inspected_answer(inspected: Inspected) -> Inspection
-    ensures { result ≡ inspected_answer inspected }
+// An inspection's answer; where it is refused, with region and knowledge as they were passed: of three values, so no From.
+fn inspected(answer: Result<Inspected, Refusal>, region: Region, known: Snapshot) -> Inspection
+    ensures { result ≡ inspected_answer region known answer }
 {
-    let answer = inspected.answer;
-    let region = inspected.region;
-    let known = inspected.known;
-    let told = step_answer(answer);
-    Inspection {
-        kind: told.kind,
-        number: told.number,
-        held: inspected.held,
-        cut: inspected.cut,
-        forced: inspected.forced,
-        region,
-        known,
+    match answer {
+        Ok(inspected) => Inspection {
+            kind: step_kind(inspected.answer),
+            number: 0,
+            held: inspected.held,
+            cut: inspected.cut,
+            forced: inspected.forced,
+            region: inspected.region,
+            known: inspected.known,
+        },
+        Err(refusal) => Inspection {
+            kind: 3,
+            number: refusal.number(),
+            held: 0,
+            cut: 0,
+            forced: 0,
+            region,
+            known,
+        },
     }
 }
 
 // A region of n atoms, all open, or number 10.
 pub fn worzubil_undecided(n: usize) -> NewRegion
-    ensures { result ≡ undecided_of n }
+    ensures { result ≡ new_region_answer (undecided_of n) }
 {
-    Region::undecided(n)
+    NewRegion::from(Region::undecided(n))
 }
 
-pub fn worzubil_hold(region: Region, atom: usize) -> Decision
+pub fn worzubil_hold(mut region: Region, atom: usize) -> Decision
     ensures { result ≡ decided_answer (hold_of region (atom_number atom)) }
 {
-    decided_answer(region.hold(Atom(atom)))
+    let answer = region.hold(Atom(atom));
+    decided(answer, region)
 }
 
-pub fn worzubil_cut(region: Region, atom: usize) -> Decision
+pub fn worzubil_cut(mut region: Region, atom: usize) -> Decision
     ensures { result ≡ decided_answer (cut_of region (atom_number atom)) }
 {
-    decided_answer(region.cut(Atom(atom)))
+    let answer = region.cut(Atom(atom));
+    decided(answer, region)
 }
 
 pub fn worzubil_fresh() -> Snapshot
@@ -120,16 +173,17 @@ pub fn worzubil_fresh() -> Snapshot
     Snapshot::fresh()
 }
 
-pub fn worzubil_publish(known: Snapshot, region: Region) -> Published
-    ensures { result ≡ publish_of known region }
+pub fn worzubil_publish(mut known: Snapshot, region: Region) -> Published
+    ensures { result ≡ published_answer (publish_of known region) }
 {
-    known.publish(region)
+    let number = crate::number(known.publish(region));
+    Published { number, known }
 }
 
 pub fn worzubil_touched(system: System, index: &[u64], region: Region, known: Snapshot) -> Selected
-    ensures { result ≡ selected_of system index.now region known }
+    ensures { result ≡ selected_answer (selected_of system index.now region known) }
 {
-    snapshot::touched(system, index, region, known)
+    Selected::from(snapshot::touched(system, index, region, known))
 }
 
 pub fn worzubil_inspect(
@@ -143,9 +197,9 @@ pub fn worzubil_inspect(
     forced_atoms: &mut [usize],
     forced_values: &mut [u8],
 ) -> Inspection
-    ensures { (result, (forced_atoms.new, forced_values.new)) ≡ outcome_answer (inspect_of system (filled rows.now constants.now basis.now index.now) region known forced_atoms.old forced_values.old) }
+    ensures { (result, (forced_atoms.new, forced_values.new)) ≡ outcome_answer region known (inspect_of system (filled rows.now constants.now basis.now index.now) region known forced_atoms.old forced_values.old) }
 {
-    inspected_answer(inspect::inspect(
+    let answer = inspect::inspect(
         system,
         rows,
         constants,
@@ -155,5 +209,6 @@ pub fn worzubil_inspect(
         known,
         forced_atoms,
         forced_values,
-    ))
+    );
+    inspected(answer, region, known)
 }

@@ -5,14 +5,17 @@
 // A row's number, a place of the basis and an atom are plain numbers here. specs/Answers.antt says how each answer is told.
 #![tactic(auto)]
 
-ghost use Rattle.std.specs.Prelude.{◌≡◌, cond, ◌/◌, length, take, drop, replicate, eqb, ltb};
+ghost use Rattle.std.specs.Prelude.{◌≡◌, [], MatchOption, MatchResult, unwrap_or, cond, ◌/◌, length, take, drop, replicate, eqb, ltb};
 ghost use Rattle.std.specs.Int.Bits.{bit_or, bit_xor};
 ghost use Rattle.std.specs.Int.Count.{ones};
 ghost use Rattle.words.specs.Set.{set_of, has};
 ghost use Rattle.words.specs.Calls.{place_of, next_of, inserted, merged, subset_of, parity_of, count_of, intersection_of, first_of};
 ghost use Rattle.rows.specs.Flat.{width_of};
 ghost use Rattle.rows.specs.Calls.{source_of, row_of, lowest_of, overlap_parity_of, overlap_count_of, addable, added_words, added_constants};
-ghost use Rattle.ffi.specs.Answers.{set_bits, row_number, basis_place, located_answer, next_answer, found_answer, counted_answer, verdict_answer, entry_answer, lowest_answer, parity_answer, overlap_answer, span_of};
+ghost use Rattle.refusal.specs.Refusal.{number_in};
+ghost use Rattle.ffi.specs.Answers.{answer, yes_answer, unfit_answer, set_bits, row_number, basis_place, located_answer, next_answer, found_answer, counted_answer, verdict_answer, entry_answer, lowest_answer, parity_answer, overlap_answer, span_of};
+
+use refusal::Refusal;
 
 pub mod files;
 pub mod hulls;
@@ -20,7 +23,8 @@ pub mod inspects;
 pub mod prepares;
 pub mod probes;
 
-// An answer: kind 0 with its value (of a yes or no: 1 or 0), 1 nothing there, 2 unfit, 3 more bits than a usize numbers.
+// An answer: kind 0 with its value (of a yes or no: 1 or 0), 1 nothing there, 2 unfit, 3 more bits than a usize numbers. Kinds and refusals are
+// numbers beside a value, here and in the other files, since C reads them so.
 #[repr(C)]
 #[derive(Clone, Copy)]
 pub struct Answer {
@@ -54,94 +58,90 @@ pub struct Span {
     pub length: usize,
 }
 
-fn found_answer(found: words::Found) -> Answer
-    ensures { result ≡ found_answer found }
-{
-    match found {
-        words::Found::At(a) => Answer { kind: 0, value: a },
-        words::Found::Nothing => Answer { kind: 1, value: 0 },
-        words::Found::TooWide => Answer { kind: 3, value: 0 },
+// A number, an atom, a row's number, and a yes or no: each an answer with its value.
+impl From<usize> for Answer {
+    ghost from_gives = { λ n a. a ≡ answer 0 n };
+
+    fn from(value: usize) -> Answer {
+        Answer { kind: 0, value }
     }
 }
 
-fn counted_answer(counted: words::Counted) -> Answer
-    ensures { result ≡ counted_answer counted }
-{
-    match counted {
-        words::Counted::Are(n) => Answer { kind: 0, value: n },
-        words::Counted::Unequal => Answer { kind: 2, value: 0 },
-        words::Counted::TooWide => Answer { kind: 3, value: 0 },
+impl From<bool> for Answer {
+    ghost from_gives = { λ b a. a ≡ yes_answer b };
+
+    fn from(yes: bool) -> Answer {
+        Answer::from(usize::from(yes))
     }
 }
 
-fn verdict_answer(verdict: words::Verdict) -> Answer
-    ensures { result ≡ verdict_answer verdict }
-{
-    match verdict {
-        words::Verdict::Yes => Answer { kind: 0, value: 1 },
-        words::Verdict::No => Answer { kind: 0, value: 0 },
-        words::Verdict::Unequal => Answer { kind: 2, value: 0 },
+impl From<rows::Atom> for Answer {
+    ghost from_gives = { λ atom a. a ≡ answer 0 atom.0 };
+
+    fn from(atom: rows::Atom) -> Answer {
+        Answer::from(atom.0)
     }
 }
 
-fn next_answer(next: words::Next) -> Step
-    ensures { result ≡ next_answer next }
-{
-    match next {
-        words::Next::Bit(b, rest) => Step {
-            kind: 0,
-            bit: b,
-            remaining: rest.remaining,
-        },
-        words::Next::Done => Step {
-            kind: 1,
-            bit: 0,
-            remaining: 0,
-        },
+impl From<rows::Source> for Answer {
+    ghost from_gives = { λ number a. a ≡ answer 0 number.0 };
+
+    fn from(number: rows::Source) -> Answer {
+        Answer::from(number.0)
     }
 }
 
-fn entry_answer(entry: rows::Entry) -> Answer
-    ensures { result ≡ entry_answer entry }
-{
-    match entry {
-        rows::Entry::Names(s) => Answer {
-            kind: 0,
-            value: s.0,
-        },
-        rows::Entry::Nothing => Answer { kind: 1, value: 0 },
+// Why there is none.
+impl From<words::Unfit> for Answer {
+    ghost from_gives = { λ unfit a. a ≡ unfit_answer unfit };
+
+    fn from(unfit: words::Unfit) -> Answer {
+        match unfit {
+            words::Unfit::Unequal => Answer { kind: 2, value: 0 },
+            words::Unfit::TooWide => Answer { kind: 3, value: 0 },
+        }
     }
 }
 
-fn lowest_answer(lowest: rows::Lowest) -> Answer
-    ensures { result ≡ lowest_answer lowest }
-{
-    match lowest {
-        rows::Lowest::At(a) => Answer {
-            kind: 0,
-            value: a.0,
-        },
-        rows::Lowest::Empty => Answer { kind: 1, value: 0 },
-        rows::Lowest::Outside => Answer { kind: 2, value: 0 },
+impl From<rows::Outside> for Answer {
+    ghost from_gives = { λ _ a. a ≡ answer 2 0 };
+
+    fn from(_outside: rows::Outside) -> Answer {
+        Answer { kind: 2, value: 0 }
     }
 }
 
-fn parity_answer(parity: rows::Parity) -> Answer
-    ensures { result ≡ parity_answer parity }
-{
-    match parity {
-        rows::Parity::Even => Answer { kind: 0, value: 0 },
-        rows::Parity::Odd => Answer { kind: 0, value: 1 },
-        rows::Parity::Outside => Answer { kind: 2, value: 0 },
+// What is there, or that nothing is.
+impl<T: Into<Answer>> From<Option<T>> for Answer {
+    ghost from_gives = { λ o a. MatchOption o (a ≡ answer 1 0) (λ v. T.converts v a) };
+
+    fn from(found: Option<T>) -> Answer {
+        match found {
+            Some(value) => value.into(),
+            None => Answer { kind: 1, value: 0 },
+        }
     }
 }
 
-fn overlap_answer(overlap: rows::Overlap) -> Answer
-    ensures { result ≡ overlap_answer overlap }
+// What a call gives, or why it gives nothing.
+impl<T: Into<Answer>, E: Into<Answer>> From<Result<T, E>> for Answer {
+    ghost from_gives = { λ r a. MatchResult r (λ v. T.converts v a) (λ e. E.converts e a) };
+
+    fn from(outcome: Result<T, E>) -> Answer {
+        match outcome {
+            Ok(value) => value.into(),
+            Err(refusal) => refusal.into(),
+        }
+    }
+}
+
+// The number under which a check refuses, or 0.
+fn number(check: Result<(), Refusal>) -> usize
+    ensures { result ≡ number_in check }
 {
-    match overlap {
-        rows::Overlap::Atoms(n) => Answer { kind: 0, value: n },
-        rows::Overlap::Outside => Answer { kind: 2, value: 0 },
+    match check {
+        Ok(()) => 0,
+        Err(refusal) => refusal.number(),
     }
 }
 
@@ -165,7 +165,19 @@ pub fn worzubil_popcount(word: u64) -> u32
 pub fn worzubil_next(word: u64) -> Step
     ensures { result ≡ next_answer (next_of (set_bits word)) }
 {
-    next_answer(words::bits(word).next())
+    let mut bits = words::bits(word);
+    match bits.next() {
+        Some(bit) => Step {
+            kind: 0,
+            bit,
+            remaining: bits.remaining,
+        },
+        None => Step {
+            kind: 1,
+            bit: 0,
+            remaining: 0,
+        },
+    }
 }
 
 pub fn worzubil_contains(words: &[u64], atom: usize) -> bool
@@ -204,31 +216,31 @@ pub fn worzubil_xor_assign(left: &mut [u64], right: &[u64]) -> bool
 pub fn worzubil_is_subset_of(left: &[u64], right: &[u64]) -> Answer
     ensures { result ≡ verdict_answer (subset_of left.now right.now) }
 {
-    verdict_answer(words::is_subset_of(left, right))
+    Answer::from(words::is_subset_of(left, right))
 }
 
 pub fn worzubil_intersection_parity(left: &[u64], right: &[u64]) -> Answer
     ensures { result ≡ verdict_answer (parity_of left.now right.now) }
 {
-    verdict_answer(words::intersection_parity(left, right))
+    Answer::from(words::intersection_parity(left, right))
 }
 
 pub fn worzubil_intersection_count(left: &[u64], right: &[u64]) -> Answer
     ensures { result ≡ counted_answer (intersection_of left.now right.now) }
 {
-    counted_answer(words::intersection_count(left, right))
+    Answer::from(words::intersection_count(left, right))
 }
 
 pub fn worzubil_count(words: &[u64]) -> Answer
     ensures { result ≡ counted_answer (count_of words.now) }
 {
-    counted_answer(words::count(words))
+    Answer::from(words::count(words))
 }
 
 pub fn worzubil_first(words: &[u64]) -> Answer
     ensures { result ≡ found_answer (first_of words.now) }
 {
-    found_answer(words::first(words))
+    Answer::from(words::first(words))
 }
 
 pub fn worzubil_width(atoms: usize) -> usize
@@ -240,46 +252,45 @@ pub fn worzubil_width(atoms: usize) -> usize
 pub fn worzubil_source_at(basis: &[usize], place: usize) -> Answer
     ensures { result ≡ entry_answer (source_of basis.now (basis_place place)) }
 {
-    entry_answer(rows::source_at(basis, rows::Ordinal(place)))
+    Answer::from(rows::source_at(basis, rows::Ordinal(place)))
 }
 
 // The words of a row, told by their place: a row that does not lie within has none.
+#[tactic(auto, unfolding(crate::specs::Answers::span_of, rows::specs::Calls::part_of))]
 pub fn worzubil_row(rows: &[u64], width: usize, number: usize) -> Span
     ensures place { result ≡ span_of width rows.now (row_number number) }
-    ensures words { take result.length (drop result.start rows.now) ≡ row_of width rows.now (row_number number) }
+    ensures words { take result.length (drop result.start rows.now) ≡ unwrap_or (row_of width rows.now (row_number number)) [] }
 {
-    let words = rows::row(rows, width, rows::Source(number));
-    if words.len() != width {
-        return Span {
+    match rows::row(rows, width, rows::Source(number)) {
+        Some(words) => Span {
+            kind: 0,
+            start: number * width,
+            length: words.len(),
+        },
+        None => Span {
             kind: 2,
             start: 0,
             length: 0,
-        };
-    }
-    let start = number * width;
-    Span {
-        kind: 0,
-        start,
-        length: width,
+        },
     }
 }
 
 pub fn worzubil_lowest_atom(rows: &[u64], width: usize, number: usize) -> Answer
     ensures { result ≡ lowest_answer (lowest_of width rows.now (row_number number)) }
 {
-    lowest_answer(rows::lowest_atom(rows, width, rows::Source(number)))
+    Answer::from(rows::lowest_atom(rows, width, rows::Source(number)))
 }
 
 pub fn worzubil_overlap_parity(rows: &[u64], width: usize, number: usize, mask: &[u64]) -> Answer
     ensures { result ≡ parity_answer (overlap_parity_of width rows.now (row_number number) mask.now) }
 {
-    parity_answer(rows::overlap_parity(rows, width, rows::Source(number), mask))
+    Answer::from(rows::overlap_parity(rows, width, rows::Source(number), mask))
 }
 
 pub fn worzubil_overlap_count(rows: &[u64], width: usize, number: usize, mask: &[u64]) -> Answer
     ensures { result ≡ overlap_answer (overlap_count_of width rows.now (row_number number) mask.now) }
 {
-    overlap_answer(rows::overlap_count(rows, width, rows::Source(number), mask))
+    Answer::from(rows::overlap_count(rows, width, rows::Source(number), mask))
 }
 
 pub fn worzubil_add(

@@ -2,13 +2,14 @@
 ghost use Rattle.std.specs.Prelude.{◌≡◌, cond, take};
 ghost use Rattle.hull.specs.Propose.{limit, proposal_of};
 ghost use Rattle.embed.specs.Written.{writable, written_words, written_constants};
-ghost use Rattle.ffi.specs.Answers.{row_number};
+ghost use Rattle.ffi.specs.Answers.{row_number, proposal_answer};
 
-use hull::{Hull, Proposal};
+use ffi::hulls::Proposal;
+use hull::Hull;
 
 #[unsafe(no_mangle)]
 pub extern "C" fn worzubil_propose(k: usize, forbidden: &[u64]) -> Proposal
-    ensures { result ≡ proposal_of limit k forbidden.now }
+    ensures { result ≡ proposal_answer (proposal_of limit k forbidden.now) }
 {
     ffi::hulls::worzubil_propose(k, forbidden)
 }

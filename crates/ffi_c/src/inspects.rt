@@ -4,17 +4,17 @@ ghost use Rattle.region.specs.Calls.{undecided_of, hold_of, cut_of};
 ghost use Rattle.snapshot.specs.Knowledge.{fresh, publish_of};
 ghost use Rattle.snapshot.specs.Touch.{selected_of};
 ghost use Rattle.inspect.specs.Inspect.{filled, inspect_of};
-ghost use Rattle.ffi.specs.Answers.{atom_number, decided_answer, outcome_answer};
+ghost use Rattle.ffi.specs.Answers.{atom_number, new_region_answer, decided_answer, published_answer, selected_answer, outcome_answer};
 
-use ffi::inspects::{Decision, Inspection};
+use ffi::inspects::{Decision, Inspection, NewRegion, Published, Selected};
 use parity::System;
-use region::{NewRegion, Region};
-use snapshot::{Published, Selected, Snapshot};
+use region::Region;
+use snapshot::Snapshot;
 
 // A region of n atoms, all open, or number 10.
 #[unsafe(no_mangle)]
 pub extern "C" fn worzubil_undecided(n: usize) -> NewRegion
-    ensures { result ≡ undecided_of n }
+    ensures { result ≡ new_region_answer (undecided_of n) }
 {
     ffi::inspects::worzubil_undecided(n)
 }
@@ -42,7 +42,7 @@ pub extern "C" fn worzubil_fresh() -> Snapshot
 
 #[unsafe(no_mangle)]
 pub extern "C" fn worzubil_publish(known: Snapshot, region: Region) -> Published
-    ensures { result ≡ publish_of known region }
+    ensures { result ≡ published_answer (publish_of known region) }
 {
     ffi::inspects::worzubil_publish(known, region)
 }
@@ -54,7 +54,7 @@ pub extern "C" fn worzubil_touched(
     region: Region,
     known: Snapshot,
 ) -> Selected
-    ensures { result ≡ selected_of system index.now region known }
+    ensures { result ≡ selected_answer (selected_of system index.now region known) }
 {
     ffi::inspects::worzubil_touched(system, index, region, known)
 }
@@ -71,7 +71,7 @@ pub extern "C" fn worzubil_inspect(
     forced_atoms: &mut [usize],
     forced_values: &mut [u8],
 ) -> Inspection
-    ensures { (result, (forced_atoms.new, forced_values.new)) ≡ outcome_answer (inspect_of system (filled rows.now constants.now basis.now index.now) region known forced_atoms.old forced_values.old) }
+    ensures { (result, (forced_atoms.new, forced_values.new)) ≡ outcome_answer region known (inspect_of system (filled rows.now constants.now basis.now index.now) region known forced_atoms.old forced_values.old) }
 {
     ffi::inspects::worzubil_inspect(
         system,

@@ -2,7 +2,7 @@
 // include/worzubil.h declares them, under these names. The files are those of `ffi`.
 #![tactic(auto)]
 
-ghost use Rattle.std.specs.Prelude.{◌≡◌, cond, ◌/◌, length, take, drop, replicate, eqb, ltb};
+ghost use Rattle.std.specs.Prelude.{◌≡◌, [], unwrap_or, cond, ◌/◌, length, take, drop, replicate, eqb, ltb};
 ghost use Rattle.std.specs.Int.Bits.{bit_or, bit_xor};
 ghost use Rattle.std.specs.Int.Count.{ones};
 ghost use Rattle.words.specs.Set.{set_of, has};
@@ -132,7 +132,7 @@ pub extern "C" fn worzubil_source_at(basis: &[usize], place: usize) -> Answer
 #[unsafe(no_mangle)]
 pub extern "C" fn worzubil_row(rows: &[u64], width: usize, number: usize) -> Span
     ensures place { result ≡ span_of width rows.now (row_number number) }
-    ensures words { take result.length (drop result.start rows.now) ≡ row_of width rows.now (row_number number) }
+    ensures words { take result.length (drop result.start rows.now) ≡ unwrap_or (row_of width rows.now (row_number number)) [] }
 {
     ffi::worzubil_row(rows, width, number)
 }

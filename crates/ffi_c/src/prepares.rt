@@ -1,11 +1,12 @@
 // Preparation and the columns of the index: the calls of `ffi`'s prepares.rt.
 ghost use Rattle.std.specs.Prelude.{◌≡◌, take, drop};
+ghost use Rattle.refusal.specs.Refusal.{number_in};
 ghost use Rattle.parity.specs.Prepare.{lent, prepare_of};
-ghost use Rattle.index.specs.Column.{column_unfit, wanted_column};
-ghost use Rattle.ffi.specs.Answers.{atom_number, column_span_of};
+ghost use Rattle.index.specs.Column.{column_check, wanted_column};
+ghost use Rattle.ffi.specs.Answers.{atom_number, prepared_answer, column_span_of};
 
 use ffi::Span;
-use parity::Prepared;
+use ffi::prepares::Prepared;
 
 #[unsafe(no_mangle)]
 pub extern "C" fn worzubil_prepare(
@@ -18,7 +19,7 @@ pub extern "C" fn worzubil_prepare(
     unit_values: &mut [u8],
     index: &mut [u64],
 ) -> Prepared
-    ensures { (result, lent rows.new constants.new basis.new unit_atoms.new unit_values.new index.new) ≡ prepare_of n m (lent rows.old constants.old basis.old unit_atoms.old unit_values.old index.old) }
+    ensures { (result, lent rows.new constants.new basis.new unit_atoms.new unit_values.new index.new) ≡ prepared_answer (prepare_of n m (lent rows.old constants.old basis.old unit_atoms.old unit_values.old index.old)) }
 {
     ffi::prepares::worzubil_prepare(n, m, rows, constants, basis, unit_atoms, unit_values, index)
 }
@@ -34,7 +35,7 @@ pub extern "C" fn worzubil_column(index: &[u64], n: usize, rank: usize, atom: us
 
 #[unsafe(no_mangle)]
 pub extern "C" fn worzubil_column_number(index: &[u64], n: usize, rank: usize, atom: usize) -> usize
-    ensures { result ≡ column_unfit index.now n rank (atom_number atom) }
+    ensures { result ≡ number_in (column_check index.now n rank (atom_number atom)) }
 {
     ffi::prepares::worzubil_column_number(index, n, rank, atom)
 }

@@ -1,9 +1,10 @@
 // The probe: the call of `ffi`'s probes.rt.
 ghost use Rattle.std.specs.Prelude.{◌≡◌};
 ghost use Rattle.probe.specs.Probe.{probe_of};
+ghost use Rattle.ffi.specs.Answers.{probed_answer};
 
+use ffi::probes::Probed;
 use parity::System;
-use probe::Probed;
 use region::Region;
 
 #[unsafe(no_mangle)]
@@ -14,7 +15,7 @@ pub extern "C" fn worzubil_probe(
     basis: &[usize],
     region: Region,
 ) -> Probed
-    ensures { result ≡ probe_of system rows.now constants.now basis.now region }
+    ensures { result ≡ probed_answer (probe_of system rows.now constants.now basis.now region) }
 {
     ffi::probes::worzubil_probe(system, rows, constants, basis, region)
 }

@@ -1,8 +1,9 @@
 -- What lent rows that no number refuses have: the bounds, no atom from n on, no constant above 1. And checks that join more to these.
-use Prim.Native.Nat.{ℕ, zero, suc, ◌+◌, ◌*◌, ◌^◌, ◌≤◌, ◌<◌}
-use mathlib.Core.Path.{◌≡◌, refl, sym, ap, ap₂, ◌∙◌}
+use Prim.Native.Nat.{ℕ, suc, ◌+◌, ◌*◌, ◌^◌, ◌≤◌, ◌<◌}
+use mathlib.Core.Path.{◌≡◌, refl, ap, ap₂, ◌∙◌}
 use mathlib.Core.List.{List, [], ◌∷◌}
-use mathlib.Core.Bool.{Bool, true, false, cond, ◌||◌}
+use mathlib.Core.Bool.{Bool, true, false, cond, ◌||◌, or-false, true≢false}
+use Rattle.std.specs.Prelude.{Result, Ok, Err}
 use native.Mathlib.Numerals.{add-one}
 use native.Mathlib.Omega.{arith}
 use borrow.Author.Tests.{leb-false, ltb-false, lt-leb, le-ltb}
@@ -10,9 +11,11 @@ use lib.ListN.{length, get_or}
 use lib.Dec.{leb, ltb}
 use Rattle.words.specs.Set.{set_of}
 use Rattle.rows.specs.Flat.{width_of, row}
-use Rattle.fit.specs.Refusal.{refusal, or_refused}
-use Rattle.fit.specs.Rows.{overfull, short, strays, rows_unfit}
-use Rattle.fit.proofs.Among.{or_none, or_right, any_each, any_none}
+use Rattle.refusal.specs.Refusal.{checked}
+use Rattle.refusal.specs.declared.Refusal.{Refusal}
+use Rattle.refusal.specs.declared.Refusal.TheVariants.{Short, Overfull, Stray}
+use Rattle.fit.specs.Rows.{overfull, short, strays, rows_check}
+use Rattle.fit.proofs.Among.{or_none, any_each, any_none}
 
 pub record Fit (n m : ℕ) (ws cs : List ℕ) : Type 0 where
   pub atoms : n ≤ 512
@@ -57,57 +60,30 @@ fit_of n m ws cs none atoms rows words constants = record {
   small = λ r h. omega (arith, ltb-false 1 (get_or cs r 0) (row_clean n (width_of n) ws cs m none r h).1);
 }
 
--- ---- the numbers, and `more` that a caller may lend too little of
+-- ---- the checks, and `more` that a caller may lend too little of
 
-pub passed : (t : Bool) (k x : ℕ) → cond t (suc k) x ≡ 0 → (t ≡ false) × (x ≡ 0)
-passed true k x e = let z : ⊥ = omega arith in absurd z
-passed false k x e = (refl, e)
-
-ten : (o s t more : Bool) → refusal ((10, o) ∷ (9, s) ∷ (11, t) ∷ []) ≡ 10 → 10 ≡ refusal ((10, o) ∷ (9, s || more) ∷ (11, t) ∷ [])
-ten true s t more e = refl
-ten false true t more e = let z : ⊥ = omega arith in absurd z
-ten false false true more e = let z : ⊥ = omega arith in absurd z
-ten false false false more e = let z : ⊥ = omega arith in absurd z
-
-nine : (o s t more : Bool) → (refusal ((10, o) ∷ (9, s) ∷ (11, t) ∷ []) ≡ 10 → ⊥) → more ≡ true → 9 ≡ refusal ((10, o) ∷ (9, s || more) ∷ (11, t) ∷ [])
-nine true s t more ne e = absurd (ne refl)
-nine false s t more ne e = sym (ap (λ (b : Bool). cond b 9 (refusal ((11, t) ∷ []))) (or_right s more e))
-
-no_more : (s more : Bool) → more ≡ false → s ≡ (s || more)
-no_more true more e = refl
-no_more false more e = sym e
+pub passed : (t : Bool) (e : Refusal) (rest : Result Unit Refusal) → cond t (Err e) rest ≡ Ok tt → (t ≡ false) × (rest ≡ Ok tt)
+passed true e rest p = cc
+passed false e rest p = (refl, p)
 
 module _ (n m : ℕ) (ws cs : List ℕ) (more : Bool) where
-  abbrev pub joined : ℕ
-  joined = refusal ((10, overfull n m) ∷ (9, short n m ws cs || more) ∷ (11, strays n (width_of n) ws cs m) ∷ [])
+  abbrev pub joined : Result Unit Refusal
+  joined = checked ((Overfull, overfull n m) ∷ (Short, short n m ws cs || more) ∷ (Stray, strays n (width_of n) ws cs m) ∷ [])
 
-  pub joined_ten : (k : ℕ) → k ≡ rows_unfit n m ws cs → k ≡ 10 → 10 ≡ joined
-  unfolding rows_unfit
-  joined_ten k is e = ten (overfull n m) (short n m ws cs) (strays n (width_of n) ws cs m) more (sym is ∙ e)
-
-  pub joined_nine : (k : ℕ) → k ≡ rows_unfit n m ws cs → (k ≡ 10 → ⊥) → more ≡ true → 9 ≡ joined
-  unfolding rows_unfit
-  joined_nine k is ne e = nine (overfull n m) (short n m ws cs) (strays n (width_of n) ws cs m) more (λ p. ne (is ∙ p)) e
-
-  pub joined_none : (k : ℕ) → k ≡ rows_unfit n m ws cs → more ≡ false → k ≡ joined
-  unfolding rows_unfit
-  joined_none k is e =
-      is ∙ ap (λ (s : Bool). refusal ((10, overfull n m) ∷ (9, s) ∷ (11, strays n (width_of n) ws cs m) ∷ [])) (no_more (short n m ws cs) more e)
-
-  pub joined_fit : joined ≡ 0 → Fit n m ws cs × (more ≡ false)
+  pub joined_fit : joined ≡ Ok tt → Fit n m ws cs × (more ≡ false)
   joined_fit e =
-      let full = passed (overfull n m) 9 _ e in
-      let lent = passed (short n m ws cs || more) 8 _ full.1 in
+      let full = passed (overfull n m) _ _ e in
+      let lent = passed (short n m ws cs || more) _ _ full.1 in
       let limits = or_none (ltb 512 n) (ltb 512 m) full.0 in
       let room = or_none (short n m ws cs) more lent.0 in
       let each = or_none (ltb (length ws) (m * width_of n)) (ltb (length cs) m) room.0 in (
-        fit_of n m ws cs (passed (strays n (width_of n) ws cs m) 10 0 lent.1).0 (ltb-false 512 n limits.0) (ltb-false 512 m limits.1)
+        fit_of n m ws cs (passed (strays n (width_of n) ws cs m) _ _ lent.1).0 (ltb-false 512 n limits.0) (ltb-false 512 m limits.1)
             (ltb-false (length ws) (m * width_of n) each.0) (ltb-false (length cs) m each.1),
         room.1,
       )
 
--- and back: what is fit is not refused, and what is not refused with 10 is within the limits
-pub fit_joined : (n m : ℕ) (ws cs : List ℕ) (more : Bool) → Fit n m ws cs → more ≡ false → joined n m ws cs more ≡ 0
+-- and back: what is fit is not refused, and rows that are fit are joined to nothing
+pub fit_joined : (n m : ℕ) (ws cs : List ℕ) (more : Bool) → Fit n m ws cs → more ≡ false → joined n m ws cs more ≡ Ok tt
 fit_joined n m ws cs more fit none =
     simp (
       le-ltb 512 n fit.atoms,
@@ -118,16 +94,30 @@ fit_joined n m ws cs more fit none =
       strays_none n (width_of n) ws cs m (λ r h. (fit.clean r h, fit.small r h)),
     )
 
-within : (o s t : Bool) → (refusal ((10, o) ∷ (9, s) ∷ (11, t) ∷ []) ≡ 10 → ⊥) → o ≡ false
-within true s t ne = absurd (ne refl)
-within false s t ne = refl
+pub joined_none : (n m : ℕ) (ws cs : List ℕ) → rows_check n m ws cs ≡ joined n m ws cs false
+unfolding rows_check
+joined_none n m ws cs = simp or-false refl
 
-pub not_ten : (n m : ℕ) (ws cs : List ℕ) (k : ℕ) → k ≡ rows_unfit n m ws cs → (k ≡ 10 → ⊥) → (n ≤ 512) × (m ≤ 512)
-unfolding rows_unfit
-not_ten n m ws cs k is ne =
-    let limits = or_none (ltb 512 n) (ltb 512 m) (within (overfull n m) (short n m ws cs) (strays n (width_of n) ws cs m) (λ e. ne (is ∙ e))) in
-    (ltb-false 512 n limits.0, ltb-false 512 m limits.1)
+-- rows that pass, within the limits or not
+pub rows_passed : (n m : ℕ) (ws cs : List ℕ) → rows_check n m ws cs ≡ Ok tt
+    → (overfull n m ≡ false) × (short n m ws cs ≡ false) × (strays n (width_of n) ws cs m ≡ false)
+unfolding rows_check
+rows_passed n m ws cs e =
+    let full = passed (overfull n m) _ _ e in
+    let room = passed (short n m ws cs) _ _ full.1 in
+    (full.0, room.0, (passed (strays n (width_of n) ws cs m) _ _ room.1).0)
 
-pub refused_is : {A : Type 0} (k : ℕ) (answer : A) (refused : ℕ → A) → (k ≡ 0 → ⊥) → refused k ≡ or_refused k answer refused
-refused_is zero answer refused ne = absurd (ne refl)
-refused_is (suc k) answer refused ne = refl
+-- rows that do not pass, beside more that does: `stray` and the checks after it are those of a caller
+pub rows_failed : (n m : ℕ) (ws cs : List ℕ) (more stray : Bool) (after : Result Unit Refusal) (refusal : Refusal) → overfull n m ≡ false → more ≡ false
+    → rows_check n m ws cs ≡ Err refusal
+    → cond (short n m ws cs || more) (Err Short) (cond (strays n (width_of n) ws cs m || stray) (Err Stray) after) ≡ Err refusal
+unfolding rows_check
+rows_failed n m ws cs more stray after refusal full fits e =
+    go (overfull n m) (short n m ws cs) (strays n (width_of n) ws cs m) full e
+  where
+    go : (o s t : Bool) → o ≡ false → cond o (Err Overfull) (cond s (Err Short) (cond t (Err Stray) (Ok (tt {0})))) ≡ Err refusal
+        → cond (s || more) (Err Short) (cond (t || stray) (Err Stray) after) ≡ Err refusal
+    go true s t o p = absurd (true≢false o)
+    go false true t o p = p
+    go false false true o p = ap (λ (b : Bool). cond {A = Result Unit Refusal} b (Err Short) (Err Stray)) fits ∙ p
+    go false false false o p = cc

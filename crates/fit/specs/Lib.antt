@@ -1,3 +1,2 @@
 -- What the contracts of `fit` cite.
-pub mod Refusal
 pub mod Rows

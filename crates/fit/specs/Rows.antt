@@ -1,8 +1,10 @@
 -- What a caller can be told no for who lends m rows over n atoms, their constants and a basis of them.
-use Rattle.std.specs.Prelude.{ℕ, zero, suc, ◌*◌, ◌^◌, List, [], ◌∷◌, Bool, false, ◌||◌, length, get_or, leb, ltb}
+use Rattle.std.specs.Prelude.{ℕ, zero, suc, ◌*◌, ◌^◌, List, [], ◌∷◌, Bool, false, ◌||◌, length, get_or, leb, ltb, Result}
 use Rattle.words.specs.Set.{set_of}
 use Rattle.rows.specs.Flat.{width_of, row}
-use Rattle.fit.specs.Refusal.{refusal}
+use Rattle.refusal.specs.Refusal.{checked}
+use Rattle.refusal.specs.declared.Refusal.{Refusal}
+use Rattle.refusal.specs.declared.Refusal.TheVariants.{Short, Overfull, Stray}
 
 -- "n is 0 to 512, rows 0 to 512"
 abbrev pub limit : ℕ
@@ -22,8 +24,8 @@ unfoldable pub strays : ℕ → ℕ → List ℕ → List ℕ → ℕ → Bool
 strays n w ws cs zero = false
 strays n w ws cs (suc m) = strays n w ws cs m || (leb (2 ^ n) (set_of (row w ws m)) || ltb 1 (get_or cs m 0))
 
-unfoldable pub rows_unfit : ℕ → ℕ → List ℕ → List ℕ → ℕ
-rows_unfit n m ws cs = refusal ((10, overfull n m) ∷ (9, short n m ws cs) ∷ (11, strays n (width_of n) ws cs m) ∷ [])
+unfoldable pub rows_check : ℕ → ℕ → List ℕ → List ℕ → Result Unit Refusal
+rows_check n m ws cs = checked ((Overfull, overfull n m) ∷ (Short, short n m ws cs) ∷ (Stray, strays n (width_of n) ws cs m) ∷ [])
 
 -- "13: .. a basis entry below the rank naming no row"
 unfoldable pub misnames : ℕ → List ℕ → ℕ → Bool

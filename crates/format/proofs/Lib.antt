@@ -1,5 +1,5 @@
 -- Laws on files and lists, for the proofs of this crate and of those above it.
-pub mod Reading
+pub mod KindNumbers
 pub mod Listing
 pub mod Offsets
 pub mod Tables

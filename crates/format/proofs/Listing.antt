@@ -1,12 +1,12 @@
 -- A list of c numbers: its length, its first number before a turn, and its last one after it.
-use Prim.Native.Nat.{ℕ, zero, suc, ◌+◌, ◌-◌, ◌≤◌, ◌<◌}
+use Prim.Native.Nat.{ℕ, zero, suc, ◌+◌, ◌-◌, ◌<◌}
 use mathlib.Core.Path.{◌≡◌, refl, sym, ap, ap₂, ◌∙◌}
 use mathlib.Core.List.{List, [], ◌∷◌, ◌++◌}
 use native.Mathlib.Nat.{zero-add, add-zero, add-suc, suc-add}
 use native.Mathlib.Numerals.{add-one}
 use native.Mathlib.Omega.{arith}
 use lib.ListN.{length, set, take}
-use lib.Seq.{take-suc-set, take_all}
+use lib.Seq.{take-suc-set}
 use Rattle.format.specs.Bytes.{list_from}
 
 module _ (number : ℕ → ℕ) where
@@ -33,6 +33,3 @@ module _ (number : ℕ → ℕ) where
   fill_next l i v h e is =
       ap (λ (j : ℕ). take j (set l i v)) (add-one i) ∙ take-suc-set l i v h ∙ ap₂ (λ (t : List ℕ) (x : ℕ). t ++ (x ∷ [])) e (is ∙ ap number (sym (zero-add i)))
       ∙ sym (ap (list_from number 0) (add-one i) ∙ list_last 0 i)
-
-  pub fill_end : (l : List ℕ) (i c : ℕ) → length l ≡ c → c ≤ i → i ≤ c → take i l ≡ list_from number 0 i → l ≡ list_from number 0 c
-  fill_end l i c e h k is = sym (take_all i l (omega arith)) ∙ is ∙ ap (list_from number 0) (omega arith)

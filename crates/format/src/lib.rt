@@ -1,120 +1,205 @@
-// Reading a file of records: bytes, numbers of 2 and of 8 bytes, and a record's fields. A record is its offset `o`, and a field lies `i` bytes
-// from there. Every call is total: past the end of the file a byte is 0.
+// Reading a file of records: bytes, numbers of 2 and of 8 bytes, and a record's fields. Every call is total: past the end of the file a
+// byte is 0.
 #![tactic(auto)]
 
-ghost use Rattle.std.specs.Prelude.{◌≡◌, ◌+◌, ◌<◌, min, length};
+ghost use Rattle.std.specs.Prelude.{◌≡◌, ◌+◌, ◌-◌, min, length};
+ghost use Rattle.std.specs.Iterator.{at_most};
 ghost use Rattle.hull.specs.Propose.{limit, table_words, proposal_of};
 ghost use Rattle.format.specs.Bytes.{byte_at, short_at, word_at, list_from};
-ghost use Rattle.format.specs.Format.{length_at, body_at, next_at, atom_at, atom_count, k_at, table_word_at, table_at};
+ghost use Rattle.format.specs.Kind.{kind_of};
+ghost use Rattle.format.specs.Format.{length_at, kind_at, body_at, next_at, count_at, constant_at, atom_at, atom_count, k_at, table_word_at, table_at, decided_at, value_at};
+ghost use Rattle.format.specs.Starts.{NextRecord};
 
-use hull::Proposal;
+use hull::Hull;
+use refusal::Refusal;
 
-pub fn byte(file: &[u8], o: usize, i: usize) -> usize
-    ensures is { result ≡ byte_at file.now (o + i) }
-    ensures small { result < 256 }
-{
-    let bytes = file.len();
-    if bytes <= o {
-        return 0;
-    }
-    if bytes - o <= i {
-        return 0;
-    }
-    file[o + i] as usize
+// What a record is; document 01 numbers the kinds from 1 in this order.
+#[derive(Clone, Copy, Debug, PartialEq, Eq)]
+pub enum Kind {
+    Atoms,
+    Row,
+    Table,
+    Decide,
+    Inspect,
+    Probe,
 }
 
-// A number of 2 bytes.
-pub fn short(file: &[u8], o: usize, i: usize) -> usize
-    ensures is { result ≡ short_at file.now (o + i) }
-    ensures small { result < 65536 }
-{
-    if file.len() <= i {
-        return 0;
-    }
-    byte(file, o, i) + byte(file, o, i + 1) * 256
-}
+// The number of a record's kind is none of 1 to 6.
+#[derive(Clone, Copy, Debug, PartialEq, Eq)]
+pub struct UnknownKind;
 
-// A number of 8 bytes.
-pub fn word(file: &[u8], o: usize, i: usize) -> u64
-    ensures { result ≡ word_at file.now (o + i) }
-{
-    if file.len() <= i {
-        return 0;
-    }
-    let a = short(file, o, i) as u64;
-    let b = short(file, o, i + 2) as u64;
-    let c = short(file, o, i + 4) as u64;
-    let d = short(file, o, i + 6) as u64;
-    a + b * 65536 + c * 4294967296 + d * 281474976710656
-}
+impl TryFrom<u16> for Kind {
+    type Error = UnknownKind;
 
-// A record's length, which counts what follows it.
-pub fn length(file: &[u8], o: usize) -> usize
-    ensures is { result ≡ length_at file.now o }
-    ensures small { result < 65536 }
-{
-    short(file, o, 0)
-}
+    ghost try_from_gives = { λ number r. r ≡ kind_of number };
 
-// How many bytes a record's body has.
-pub fn body(file: &[u8], o: usize) -> usize
-    ensures is { result ≡ body_at file.now o }
-    ensures small { result < 65536 }
-{
-    let size = length(file, o);
-    if size < 2 {
-        return 0;
-    }
-    size - 2
-}
-
-// How many atoms a row names.
-pub fn atom_count(file: &[u8], o: usize) -> usize
-    ensures is { result ≡ atom_count file.now o }
-    ensures small { result < 65536 }
-{
-    let size = body(file, o);
-    if size < 1 {
-        return 0;
-    }
-    (size - 1) / 2
-}
-
-// Where the next record begins.
-pub fn next(file: &[u8], o: usize) -> usize
-    ensures { result ≡ next_at file.now o }
-{
-    let bytes = file.len();
-    if bytes <= o {
-        return bytes;
-    }
-    let size = 2 + length(file, o);
-    if bytes - o <= size {
-        return bytes;
-    }
-    o + size
-}
-
-// Fills the lent places with a record's atoms, as many as there are places.
-pub fn read_atoms(file: &[u8], o: usize, atoms: &mut [usize])
-    ensures { atoms.new ≡ list_from (atom_at file.now o) 0 (length atoms.old) }
-{
-    let mut i = 0;
-    while i < atoms.len() {
-        atoms[i] = short(file, o, 5 + i * 2);
-        i += 1;
+    fn try_from(number: u16) -> Result<Kind, UnknownKind> {
+        match number {
+            1 => Ok(Kind::Atoms),
+            2 => Ok(Kind::Row),
+            3 => Ok(Kind::Table),
+            4 => Ok(Kind::Decide),
+            5 => Ok(Kind::Inspect),
+            6 => Ok(Kind::Probe),
+            _ => Err(UnknownKind),
+        }
     }
 }
 
-// Fills the lent places with a table's words, as many as there are places.
-pub fn read_words(file: &[u8], o: usize, words: &mut [u64])
-    ensures { words.new ≡ list_from (table_word_at file.now o) 0 (length words.old) }
-{
-    let start = 5 + byte(file, o, 4) * 2;
-    let mut j = 0;
-    while j < words.len() {
-        words[j] = word(file, o, start + j * 8);
-        j += 1;
+// A record: its file, and where its first byte stands there. A field lies some bytes on from that.
+#[derive(Clone, Copy)]
+pub struct Record<'a> {
+    pub file: &'a [u8],
+    pub offset: usize,
+}
+
+impl<'a> Record<'a> {
+    pub fn byte(self, i: usize) -> u8
+        ensures { result ≡ byte_at self.entry.file.now (self.entry.offset + i) }
+    {
+        let at = self.offset.saturating_add(i);
+        self.file.get(at).copied().unwrap_or(0)
+    }
+
+    // A number of 2 bytes.
+    #[tactic(auto, unfolding(crate::specs::Bytes::short_at))]
+    pub fn short(self, i: usize) -> u16
+        ensures { result ≡ short_at self.entry.file.now (self.entry.offset + i) }
+    {
+        // Past the end, where i + 1 could wrap.
+        if self.file.len() <= i {
+            return 0;
+        }
+        u16::from_le_bytes([self.byte(i), self.byte(i + 1)])
+    }
+
+    // A number of 8 bytes.
+    #[tactic(auto, unfolding(crate::specs::Bytes::short_at, crate::specs::Bytes::word_at))]
+    pub fn word(self, i: usize) -> u64
+        ensures { result ≡ word_at self.entry.file.now (self.entry.offset + i) }
+    {
+        // Past the end, where i + 7 could wrap.
+        if self.file.len() <= i {
+            return 0;
+        }
+        u64::from_le_bytes(std::array::from_fn(|k| self.byte(i + k)))
+    }
+
+    // The length, which counts what follows it.
+    pub fn length(self) -> u16
+        ensures { result ≡ length_at self.entry.file.now self.entry.offset }
+    {
+        self.short(0)
+    }
+
+    pub fn kind(self) -> Result<Kind, UnknownKind>
+        ensures { result ≡ kind_of (kind_at self.entry.file.now self.entry.offset) }
+    {
+        Kind::try_from(self.short(2))
+    }
+
+    // How many bytes the body has.
+    pub fn body(self) -> u16
+        ensures { result ≡ body_at self.entry.file.now self.entry.offset }
+    {
+        self.length().saturating_sub(2)
+    }
+
+    // The atom count of a record of that kind.
+    pub fn count(self) -> u16
+        ensures { result ≡ count_at self.entry.file.now self.entry.offset }
+    {
+        self.short(4)
+    }
+
+    // A row's constant.
+    pub fn constant(self) -> u8
+        ensures { result ≡ constant_at self.entry.file.now self.entry.offset }
+    {
+        self.byte(4)
+    }
+
+    // How many atoms a row names.
+    pub fn atom_count(self) -> u16
+        ensures { result ≡ atom_count self.entry.file.now self.entry.offset }
+    {
+        self.body().saturating_sub(1) / 2
+    }
+
+    // The i-th atom that a row or a table names.
+    #[tactic(auto, unfolding(crate::specs::Bytes::short_at))]
+    pub fn atom(self, i: usize) -> u16
+        ensures { result ≡ atom_at self.entry.file.now self.entry.offset i }
+    {
+        // Past the end, where 5 + i * 2 could wrap.
+        if self.file.len() / 2 <= i {
+            return 0;
+        }
+        self.short(5 + i * 2)
+    }
+
+    // How many atoms a table names.
+    pub fn k(self) -> u8
+        ensures { result ≡ k_at self.entry.file.now self.entry.offset }
+    {
+        self.byte(4)
+    }
+
+    // The atom of a decision.
+    pub fn decided(self) -> u16
+        ensures { result ≡ decided_at self.entry.file.now self.entry.offset }
+    {
+        self.short(4)
+    }
+
+    // The value of a decision.
+    pub fn value(self) -> u8
+        ensures { result ≡ value_at self.entry.file.now self.entry.offset }
+    {
+        self.byte(6)
+    }
+
+    // Fills the lent places with the record's atoms, as many as there are places.
+    #[tactic(auto, using(crate::proofs::Listing::fill_next), unfolding(crate::specs::Bytes::list_from))]
+    pub fn read_atoms(self, atoms: &mut [usize])
+        ensures { atoms.new ≡ list_from (atom_at self.entry.file.now self.entry.offset) 0 (length atoms.old) }
+    {
+        for (i, atom) in atoms.iter_mut().enumerate() {
+            *atom = usize::from(self.atom(i));
+        }
+    }
+
+    // Fills the lent places with a table's words, as many as there are places.
+    #[tactic(auto, using(crate::proofs::Listing::fill_next), unfolding(crate::specs::Bytes::list_from))]
+    pub fn read_words(self, words: &mut [u64])
+        ensures { words.new ≡ list_from (table_word_at self.entry.file.now self.entry.offset) 0 (length words.old) }
+    {
+        let start = 5 + usize::from(self.k()) * 2;
+        for (j, word) in words.iter_mut().enumerate() {
+            *word = self.word(start + j * 8);
+        }
+    }
+
+    // What `propose` says of a table.
+    pub fn table(self) -> Result<Hull, Refusal>
+        ensures { result ≡ proposal_of limit (k_at self.entry.file.now self.entry.offset) (table_at self.entry.file.now self.entry.offset) }
+    {
+        let mut words = [0u64; 4];
+        let k = usize::from(self.k());
+        let forbidden = &mut words[..table_words(k)];
+        self.read_words(forbidden);
+        hull::propose(k, forbidden)
+    }
+
+    // The record that begins where this one ends by its length, or at the end of the file.
+    pub fn next(self) -> Record<'a>
+        ensures { result ≡ record { file = self.entry.file; offset = next_at self.entry.file.now self.entry.offset } }
+    {
+        let end = self.offset.saturating_add(2 + usize::from(self.length()));
+        Record {
+            file: self.file,
+            offset: end.min(self.file.len()),
+        }
     }
 }
 
@@ -122,20 +207,39 @@ pub fn read_words(file: &[u8], o: usize, words: &mut [u64])
 pub fn table_words(k: usize) -> usize
     ensures { result ≡ table_words (min k limit) }
 {
-    if k > 8 {
-        return 4;
-    }
-    let patterns: usize = 1 << k;
-    (patterns + 127) / 128 * 2
+    let patterns: usize = 1 << k.min(8);
+    patterns.div_ceil(128) * 2
 }
 
-// What `propose` says of a table.
-pub fn table(file: &[u8], o: usize) -> Proposal
-    ensures { result ≡ proposal_of limit (k_at file.now o) (table_at file.now o) }
-{
-    let mut words = [0u64; 4];
-    let k = byte(file, o, 4);
-    let count = table_words(k);
-    read_words(file, o, &mut words[..count]);
-    hull::propose(k, &words[..count])
+// The records of a file, one after another.
+#[derive(Clone, Copy)]
+pub struct Records<'a> {
+    next: Record<'a>,
+}
+
+impl<'a> Records<'a> {
+    pub fn of(file: &'a [u8]) -> Records<'a>
+        ensures { result.next ≡ record { file = file.entry; offset = 0 } }
+    {
+        Records {
+            next: Record { file, offset: 0 },
+        }
+    }
+}
+
+impl<'a> Iterator for Records<'a> {
+    type Item = Record<'a>;
+
+    ghost next_gives = { NextRecord };
+
+    ghost remaining = { λ s. at_most (length s.next.file.now - s.next.offset) };
+
+    fn next(&mut self) -> Option<Record<'a>> {
+        let record = self.next;
+        if record.file.len() <= record.offset {
+            return None;
+        }
+        self.next = record.next();
+        Some(record)
+    }
 }

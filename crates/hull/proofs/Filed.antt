@@ -1,5 +1,5 @@
 -- The equations as `list` files them: those found so far, then blanks.
-use Prim.Native.Nat.{ℕ, ◌+◌, ◌-◌, ◌%◌, ◌^◌, ◌≤◌, ◌<◌}
+use Prim.Native.Nat.{ℕ, ◌+◌, ◌-◌, ◌^◌, ◌≤◌, ◌<◌}
 use mathlib.Core.Path.{◌≡◌, refl, sym, ap, ap₂, ◌∙◌}
 use mathlib.Core.List.{List, [], ◌∷◌, ◌++◌, append-nil}
 use native.Mathlib.Nat.{sub-zero}
@@ -7,10 +7,11 @@ use native.Mathlib.Numerals.{add-one}
 use native.Mathlib.Omega.{arith}
 use borrow.Author.Tests.{eq-eqb, ne_eqb}
 use lib.ListN.{length, get_or, set, replicate, length-append}
-use lib.Dec.{eqb}
 use lib.Bits.{bit_and}
 use lib.Count.{ones}
 use lib.Seq.{set-append_seam, append_snoc}
+use mathlib.Core.Bool.{Bool}
+use Rattle.words.specs.Set.{odd}
 use Rattle.hull.specs.Propose.{limit, blank, padded}
 use Rattle.hull.specs.Steps.{reach, within, listed}
 use Rattle.hull.specs.declared.LocalEquation.{LocalEquation}
@@ -40,8 +41,8 @@ module _ (anchor : ℕ) (ps : List ℕ) (k : ℕ) where
         let rest : listed anchor ps (k - free) free ≡ listed anchor ps (k - (free + 1)) (free + 1) = rw (left_more k free h, add-one free) (rw (ne_eqb _ _ z)) in
         (f.0, g ∙ f.1, e ∙ f.2, ap (λ l. f.0 ++ l) (sym rest) ∙ f.3)
 
-    pub filed_add : {m c q : ℕ} {ds : List LocalEquation} → free < k → n < limit → get_or ps free 0 ≡ 0
-        → c ≡ reach ps free (2 ^ free) → q ≡ ones (bit_and c anchor) % 2 → ds ≡ set es n (record { coefficients = c; constant = eqb q 1 }) → m ≡ n + 1
+    pub filed_add : {m c : ℕ} {q : Bool} {ds : List LocalEquation} → free < k → n < limit → get_or ps free 0 ≡ 0
+        → c ≡ reach ps free (2 ^ free) → q ≡ odd (ones (bit_and c anchor)) → ds ≡ set es n (record { coefficients = c; constant = q }) → m ≡ n + 1
         → Filed anchor ps k (free + 1) m ds
     unfolding listed
     filed_add {c = c} h l z u w e g =
@@ -52,7 +53,7 @@ module _ (anchor : ℕ) (ps : List ℕ) (k : ℕ) where
         let tail = listed anchor ps (k - (free + 1)) (free + 1) in (
           f.0 ++ (v ∷ []),
           g ∙ ap (λ x. x + 1) f.1 ∙ sym (length-append f.0 (v ∷ [])),
-          e ∙ ap (λ d. set es n (record { coefficients = c; constant = eqb d 1 })) w ∙ ap₂ (λ x l. set l x v) f.1 f.2 ∙ padded_next limit f.0 v fits,
+          e ∙ ap (λ d. set es n (record { coefficients = c; constant = d })) w ∙ ap₂ (λ x l. set l x v) f.1 f.2 ∙ padded_next limit f.0 v fits,
           append_snoc f.0 v tail ∙ ap (λ x. f.0 ++ (within anchor x ∷ tail)) u ∙ ap (λ l. f.0 ++ l) (sym rest) ∙ f.3,
         )
 

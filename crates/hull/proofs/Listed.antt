@@ -1,5 +1,5 @@
 -- What `list` makes of placed pivots: the equations.
-use Prim.Native.Nat.{ℕ, suc, ◌+◌, ◌*◌, ◌%◌, ◌^◌}
+use Prim.Native.Nat.{ℕ, suc, ◌+◌, ◌*◌, ◌^◌}
 use mathlib.Core.Path.{◌≡◌, refl, sym, ap, ap₂, ◌∙◌}
 use mathlib.Core.List.{List, [], ◌∷◌, ◌++◌, map, map-map, map_congr_left}
 use mathlib.Core.Bool.{Bool, true, false}
@@ -19,10 +19,10 @@ use Rattle.rows.specs.Flat.{mask_of}
 use Rattle.hull.specs.Table.{Pattern}
 use Rattle.hull.specs.Equations.{Pivots, equations, zeros, through}
 use Rattle.hull.specs.Propose.{local}
-use Rattle.hull.specs.Steps.{reach, within, listed}
+use Rattle.hull.specs.Steps.{bit, headed, placed, reach, within, listed}
 use Rattle.hull.specs.declared.LocalEquation.{LocalEquation}
 use Rattle.hull.proofs.Numbers.{mask_overlap, mask_zeros, op_shl, ones_shl, even_shl, bit_onto}
-use Rattle.hull.proofs.Placed.{headed, placed, none_zero, some_pos}
+use Rattle.hull.proofs.Placed.{none_zero, some_pos}
 
 -- what a list has from place j on
 first_left : (ps : List ℕ) (j v : ℕ) (r : List ℕ) → drop j ps ≡ v ∷ r → get_or ps j 0 ≡ v
@@ -43,9 +43,9 @@ reach_taken ps j s c h =
     let v = mask_of (headed s) in
     let o = overlap (false ∷ c) (headed s) in
     ap (reach ps j)
-    (ap₂ (λ x y. bit_xor x (ones (bit_and x y) % 2 * 2 ^ j)) (even_shl c j) h
-    ∙ ap (λ n. bit_xor (m * 2 ^ j) (n % 2 * 2 ^ j)) (ap ones (op_shl by_and m v j) ∙ ones_shl (bit_and m v) j ∙ mask_overlap (false ∷ c) (headed s))
-    ∙ op_shl by_xor m (o % 2) j ∙ ap (λ n. n * 2 ^ j) (bit_onto c o))
+    (ap₂ (λ x y. bit_xor x (bit (odd (ones (bit_and x y))) * 2 ^ j)) (even_shl c j) h
+    ∙ ap (λ n. bit_xor (m * 2 ^ j) (bit (odd n) * 2 ^ j)) (ap ones (op_shl by_and m v j) ∙ ones_shl (bit_and m v) j ∙ mask_overlap (false ∷ c) (headed s))
+    ∙ op_shl by_xor m (bit (odd o)) j ∙ ap (λ n. n * 2 ^ j) (bit_onto (odd o) c))
 
 lone_bit : (n j : ℕ) → mask_of (true ∷ zeros n) * 2 ^ j ≡ 2 ^ j
 unfolding mask_of

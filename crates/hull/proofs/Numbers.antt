@@ -1,24 +1,20 @@
 -- Lists of bits as numbers: sums, overlaps, the head bit, and all of it shifted to a place j.
-use Prim.Native.Nat.{ℕ, zero, suc, ◌+◌, ◌*◌, ◌/◌, ◌%◌, ◌^◌, ◌<◌}
+use Prim.Native.Nat.{ℕ, zero, suc, ◌+◌, ◌*◌, ◌/◌, ◌^◌, ◌<◌}
 use mathlib.Core.Path.{◌≡◌, refl, sym, ap, ap₂, ◌∙◌}
 use mathlib.Core.List.{List, [], ◌∷◌}
 use mathlib.Core.Bool.{Bool, true, false, cond, xor, ◌&&◌}
-use native.Mathlib.Nat.{mod-lt, zero-lt-suc, lt_of_le_of_lt, add-zero, pow-suc, mul_assoc, mul_comm}
+use native.Mathlib.Nat.{lt_of_le_of_lt, add-zero, pow-suc, mul_assoc, mul_comm}
 use native.Mathlib.Omega.{arith}
 use lib.Bits.{bit_and, bit_xor, and_block, and_le_l, and_zero_r, and_mask, xor_block, xor_zero_r, xor_shifted}
 use lib.Count.{ones, ones_cat}
 use lib.Pow.{pow_pos, shl-shr, low}
-use lib.Dec.{eqb}
-use Rattle.words.specs.Set.{odd}
-use Rattle.words.proofs.Bitwise.{Bitwise, one}
+use Rattle.words.proofs.Bitwise.{Bitwise}
 use Rattle.rows.specs.Row.{overlap, plus}
 use Rattle.rows.specs.Flat.{mask_of}
 use Rattle.hull.specs.Equations.{zeros}
+use Rattle.hull.specs.Steps.{bit}
 
-abbrev pub bit : Bool → ℕ
-bit b = cond b 1 0
-
-bit_lt : (b : Bool) → bit b < 2
+pub bit_lt : (b : Bool) → bit b < 2
 bit_lt true = omega arith
 bit_lt false = omega arith
 
@@ -73,9 +69,7 @@ pub head_bit : (b : Bool) (x : List Bool) (j : ℕ) → bit_and (mask_of (b ∷ 
 unfolding mask_of
 head_bit b x j = ap (λ n. bit_and n 1) (shl-shr (mask_of (b ∷ x)) j) ∙ and_mask (mask_of (b ∷ x)) 1 ∙ low (mask_of x) 1 (bit_lt b)
 
--- a parity taken in as the head bit
-pub bit_onto : (c : List Bool) (n : ℕ) → bit_xor (mask_of (false ∷ c)) (n % 2) ≡ mask_of (odd n ∷ c)
+-- a head bit taken in
+pub bit_onto : (b : Bool) (c : List Bool) → bit_xor (mask_of (false ∷ c)) (bit b) ≡ mask_of (b ∷ c)
 unfolding mask_of
-bit_onto c n =
-    ap (λ m. bit_xor m (n % 2)) (add-zero (mask_of c * 2)) ∙ xor_shifted (mask_of c) 1 (n % 2) (mod-lt n (zero-lt-suc 1))
-    ∙ ap (λ d. mask_of c * 2 + d) (one (λ d. d ≡ bit (eqb d 1)) refl refl n)
+bit_onto b c = ap (λ m. bit_xor m (bit b)) (add-zero (mask_of c * 2)) ∙ xor_shifted (mask_of c) 1 (bit b) (bit_lt b)

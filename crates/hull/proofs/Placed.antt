@@ -4,30 +4,20 @@ use Prim.Native.Nat.{ℕ, zero, suc, ◌+◌, ◌-◌, ◌*◌, ◌^◌, ◌≤�
 use mathlib.Core.Path.{◌≡◌, refl, sym, ap, ap₂, ◌∙◌}
 use mathlib.Core.List.{List, [], ◌∷◌, ◌++◌}
 use mathlib.Core.Bool.{Bool, true, false, xor}
-use mathlib.Core.Option.{Option, none, some}
+use mathlib.Core.Option.{none, some}
 use native.Mathlib.Nat.{zero-mul, mul-pos}
 use native.Mathlib.Omega.{arith}
 use borrow.Author.Tests.{eq-eqb, ne_eqb}
-use lib.ListN.{length, get_or, replicate, length-append, replicate-append-replicate}
+use lib.ListN.{length, replicate, replicate-append-replicate}
 use lib.Bits.{bit_xor}
 use lib.Pow.{pow_pos}
-use lib.Seq.{append_snoc, get_or_at, set_at}
 use Rattle.words.proofs.Bitwise.{by_xor}
 use Rattle.rows.specs.Row.{plus}
 use Rattle.rows.specs.Flat.{mask_of}
 use Rattle.hull.specs.Equations.{Pivots, enter, rank}
 use Rattle.hull.specs.Propose.{limit}
-use Rattle.hull.specs.Steps.{entered}
+use Rattle.hull.specs.Steps.{bit, entered, headed, placed}
 use Rattle.hull.proofs.Numbers.{mask_plus, op_shl, even_shl, head_bit}
-
--- a pivot from its own position on; none has no bit
-abbrev pub headed : Option (List Bool) → List Bool
-headed none = []
-headed (some t) = true ∷ t
-
-abbrev pub placed : ℕ → Pivots → List ℕ
-placed j [] = []
-placed j (s ∷ ss) = mask_of (headed s) * 2 ^ j ∷ placed (suc j) ss
 
 pub none_zero : (j : ℕ) → mask_of (headed none) * 2 ^ j ≡ 0
 unfolding mask_of
@@ -46,15 +36,15 @@ none_array k h =
     let all : k + (limit - k) ≡ limit = omega arith in
     ap (λ l. l ++ replicate (limit - k) 0) (none_placed k 0) ∙ replicate-append-replicate k (limit - k) 0 ∙ ap (λ n. replicate n 0) all
 
--- how many pivots come
-abbrev pub came : Pivots → List Bool → ℕ
-came [] x = 0
-came (s ∷ ss) [] = 0
+-- whether a pivot comes
+abbrev pub came : Pivots → List Bool → Bool
+came [] x = false
+came (s ∷ ss) [] = false
 came (s ∷ ss) (false ∷ x) = came ss x
-came (none ∷ ss) (true ∷ x) = 1
+came (none ∷ ss) (true ∷ x) = true
 came (some t ∷ ss) (true ∷ x) = came ss (plus x t)
 
-pub rank_enter : (ss : Pivots) (x : List Bool) → rank (enter ss x) ≡ rank ss + came ss x
+pub rank_enter : (ss : Pivots) (x : List Bool) → rank (enter ss x) ≡ rank ss + bit (came ss x)
 unfolding enter
 rank_enter [] x = refl
 rank_enter (s ∷ ss) [] = omega arith
@@ -83,42 +73,20 @@ plus_long [] y = omega arith
 plus_long (a ∷ x) [] = omega arith
 plus_long (a ∷ x) (b ∷ y) = omega (arith, plus_long x y)
 
-module _ (n j : ℕ) (pre rest : List ℕ) (out : List ℕ × ℕ) where
-  placed_skip : (v : ℕ) (x : List Bool) → entered n (suc j) ((pre ++ (v ∷ [])) ++ rest) (mask_of x * 2 ^ suc j) ≡ out
-      → entered (suc n) j (pre ++ (v ∷ rest)) (mask_of (false ∷ x) * 2 ^ j) ≡ out
-  unfolding entered
-  placed_skip v x ih = rw (head_bit false x j) (ap₂ (entered n (suc j)) (sym (append_snoc pre v rest)) (sym (even_shl x j)) ∙ ih)
+-- behind a pivot that stands
+abbrev behind : ℕ → List ℕ × Bool → List ℕ × Bool
+behind v p = (v ∷ p.0, p.1)
 
-  placed_add : length pre ≡ j → (t x : List Bool)
-      → entered n (suc j) ((pre ++ (mask_of (true ∷ t) * 2 ^ j ∷ [])) ++ rest) (mask_of (plus x t) * 2 ^ suc j) ≡ out
-      → entered (suc n) j (pre ++ (mask_of (true ∷ t) * 2 ^ j ∷ rest)) (mask_of (true ∷ x) * 2 ^ j) ≡ out
-  unfolding entered xor
-  placed_add l t x ih =
-      let v = mask_of (true ∷ t) * 2 ^ j in
-      let is : get_or (pre ++ (v ∷ rest)) j 0 ≡ v = get_or_at pre v rest 0 j l in
-      let held : v ≡ 0 → ⊥ = λ e. omega (arith, some_pos t j) in
-      let sum : bit_xor (mask_of (true ∷ x) * 2 ^ j) v ≡ mask_of (plus x t) * 2 ^ suc j =
-      op_shl by_xor (mask_of (true ∷ x)) (mask_of (true ∷ t)) j ∙ ap (λ m. m * 2 ^ j) (mask_plus (true ∷ x) (true ∷ t)) ∙ sym (even_shl (plus x t) j) in
-      rw (head_bit true x j, is, ne_eqb _ _ held) (ap₂ (entered n (suc j)) (sym (append_snoc pre v rest)) sum ∙ ih)
-
-grown : (v j : ℕ) (pre : List ℕ) → length pre ≡ j → length (pre ++ (v ∷ [])) ≡ suc j
-grown v j pre l = length-append pre (v ∷ []) ∙ (omega arith)
-
-pub entered_placed : (zs : List ℕ) (ss : Pivots) (x : List Bool) (j : ℕ) (pre : List ℕ) → length ss ≤ length x → length pre ≡ j
-    → entered (length ss) j (pre ++ (placed j ss ++ zs)) (mask_of x * 2 ^ j) ≡ (pre ++ (placed j (enter ss x) ++ zs), came ss x)
-unfolding entered enter
-entered_placed zs [] x j pre h l = refl
-entered_placed zs (s ∷ ss) [] j pre h l = let z : ⊥ = omega arith in absurd z
-entered_placed zs (s ∷ ss) (false ∷ x) j pre h l =
-    let v = mask_of (headed s) * 2 ^ j in
-    placed_skip (length ss) j pre (placed (suc j) ss ++ zs) _ v x
-    (entered_placed zs ss x (suc j) (pre ++ (v ∷ [])) (omega arith) (grown v j pre l) ∙ ap (λ r. (r, came ss x)) (append_snoc pre v (placed (suc j) (enter ss x) ++ zs)))
-entered_placed zs (none ∷ ss) (true ∷ x) j pre h l =
-    let v = mask_of (headed none) * 2 ^ j in
-    let is : get_or (pre ++ (v ∷ (placed (suc j) ss ++ zs))) j 0 ≡ v = get_or_at pre v (placed (suc j) ss ++ zs) 0 j l in
-    rw (head_bit true x j, is, eq-eqb _ _ (none_zero j)) (ap (λ r. (r, 1)) (set_at pre v (placed (suc j) ss ++ zs) _ j l))
-entered_placed zs (some t ∷ ss) (true ∷ x) j pre h l =
-    let v = mask_of (headed (some t)) * 2 ^ j in
-    placed_add (length ss) j pre (placed (suc j) ss ++ zs) _ l t x
-    (entered_placed zs ss (plus x t) (suc j) (pre ++ (v ∷ [])) (omega (arith, plus_long x t)) (grown v j pre l)
-    ∙ ap (λ r. (r, came ss (plus x t))) (append_snoc pre v (placed (suc j) (enter ss (plus x t)) ++ zs)))
+pub entered_placed : (ss : Pivots) (x : List Bool) (j : ℕ) → length ss ≤ length x
+    → entered j (placed j ss) (mask_of x * 2 ^ j) ≡ (placed j (enter ss x), came ss x)
+unfolding entered enter xor
+entered_placed [] x j h = refl
+entered_placed (s ∷ ss) [] j h = let z : ⊥ = omega arith in absurd z
+entered_placed (s ∷ ss) (false ∷ x) j h =
+    rw (head_bit false x j) (ap (behind _) (ap (entered (suc j) (placed (suc j) ss)) (sym (even_shl x j)) ∙ entered_placed ss x (suc j) (omega arith)))
+entered_placed (none ∷ ss) (true ∷ x) j h = rw (head_bit true x j, eq-eqb _ _ (none_zero j))
+entered_placed (some t ∷ ss) (true ∷ x) j h =
+    let held : mask_of (true ∷ t) * 2 ^ j ≡ 0 → ⊥ = λ e. omega (arith, some_pos t j) in
+    let sum : bit_xor (mask_of (true ∷ x) * 2 ^ j) (mask_of (true ∷ t) * 2 ^ j) ≡ mask_of (plus x t) * 2 ^ suc j =
+    op_shl by_xor (mask_of (true ∷ x)) (mask_of (true ∷ t)) j ∙ ap (λ m. m * 2 ^ j) (mask_plus (true ∷ x) (true ∷ t)) ∙ sym (even_shl (plus x t) j) in
+    rw (head_bit true x j, ne_eqb _ _ held) (ap (behind _) (ap (entered (suc j) (placed (suc j) ss)) sum ∙ entered_placed ss (plus x t) (suc j) (omega (arith, plus_long x t))))

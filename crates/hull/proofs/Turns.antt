@@ -1,25 +1,23 @@
 -- One turn of each loop: what it does to the rest of the loop's own recursion, from the tests that the code makes.
-use Prim.Native.Nat.{ℕ, zero, suc, ◌+◌, ◌-◌, ◌*◌, ◌/◌, ◌%◌, ◌^◌, ◌≤◌, ◌<◌}
-use mathlib.Core.Path.{◌≡◌, ◌∙◌}
-use mathlib.Core.List.{List, ◌∷◌}
-use mathlib.Core.Bool.{Bool, true, false, cond}
-use native.Mathlib.Nat.{mod-lt, zero-lt-suc, one-mul}
-use native.Mathlib.Numerals.{add-one}
-use native.Mathlib.Omega.{arith}
+use Rattle.std.proofs.Common.{◌≡◌, ℕ, zero, suc, ◌+◌, ◌-◌, ◌*◌, ◌/◌, ◌%◌, ◌^◌, ◌≤◌, ◌<◌, List, [], ◌∷◌, ◌++◌, Bool, true, false, length, get_or, set, take, drop, bit_and, bit_xor, drop_of_length-le, refl, sym, ap, ap₂, ◌∙◌, add-one, arith}
+use Rattle.std.proofs.Math.Nat.{one-mul}
+use Rattle.std.proofs.Math.Seq.{drop-cons, append_snoc}
+use Rattle.std.proofs.lemmas.List.{take-append-drop, take-set, drop-set, take_more}
 use borrow.Author.Tests.{eq-eqb, ne_eqb}
-use lib.Dec.{eqb}
-use lib.ListN.{length, get_or, set}
-use lib.Bits.{bit_and, bit_xor}
 use lib.Count.{ones}
+use mir.Val.{bool_byte}
+use Rattle.words.specs.Set.{odd}
 use lib.Pow.{shl_exact}
-use Rattle.rows.specs.Flat.{atoms_of}
-use Rattle.hull.specs.Table.{Pattern, forbids, allowed_from}
-use Rattle.hull.specs.Steps.{entered, seen, counting, span_from, reach}
-use Rattle.hull.specs.declared.Basis.{Basis}
+use Rattle.hull.specs.Steps.{bit, entered, reach}
 
 -- shifts of a bit within a byte
-pub bit_shl : (n j : ℕ) → j < 8 → n % 2 * 2 ^ j % 2 ^ 8 ≡ n % 2 * 2 ^ j
-bit_shl n j h = shl_exact 1 j 8 (mod-lt n (zero-lt-suc 1)) (omega arith)
+pub bit_shl : (b : Bool) (j : ℕ) → j < 8 → bool_byte b * 2 ^ j % 2 ^ 8 ≡ bit b * 2 ^ j
+bit_shl true j h = shl_exact {a = 1} 1 j 8 (omega arith) (omega arith)
+bit_shl false j h = shl_exact {a = 0} 1 j 8 (omega arith) (omega arith)
+
+pub byte_bit : (b : Bool) → bool_byte b ≡ bit b
+byte_bit true = refl
+byte_bit false = refl
 
 pub one_shl : (w j : ℕ) → j < w → 1 * 2 ^ j % 2 ^ w ≡ 2 ^ j
 one_shl w j h = shl_exact {a = 1} 1 j w (omega arith) (omega arith) ∙ one-mul _
@@ -28,88 +26,47 @@ one_shl w j h = shl_exact {a = 1} 1 j w (omega arith) (omega arith) ∙ one-mul 
 pub left_more : (n i : ℕ) → i < n → n - i ≡ suc (n - (i + 1))
 left_more n i h = omega arith
 
-module _ (k j : ℕ) (ps : List ℕ) (d : ℕ) (h : j < k) where
-  pub enters_set : bit_and (d / 2 ^ j) 1 ≡ 1 → get_or ps j 0 ≡ 0 → entered (k - j) j ps d ≡ (set ps j d, 1)
-  unfolding entered
-  enters_set b z = rw (left_more k j h) (rw (eq-eqb _ _ b, eq-eqb _ _ z))
+-- The pivots below position j stand, and what is left of the difference there is d.
+pub record Entering (ps : List ℕ) (j d : ℕ) (end : List ℕ × Bool) : Type 0 where
+  pub pivots : end.0 ≡ take j ps ++ (entered j (drop j ps) d).0
+  pub came : end.1 ≡ (entered j (drop j ps) d).1
 
-  pub enters_add : bit_and (d / 2 ^ j) 1 ≡ 1 → (get_or ps j 0 ≡ 0 → ⊥)
-      → entered (k - j) j ps d ≡ entered (k - (j + 1)) (j + 1) ps (bit_xor d (get_or ps j 0))
-  unfolding entered
-  enters_add b z = rw (left_more k j h, add-one j) (rw (eq-eqb _ _ b, ne_eqb _ _ z))
+module _ (ps : List ℕ) (d : ℕ) where
+  module _ (j : ℕ) (end : List ℕ × Bool) (e : Entering ps j d end) where
+    pub enter_end : length ps ≤ j → (ps ≡ end.0) × (false ≡ end.1)
+    unfolding entered
+    enter_end h =
+        let none : drop j ps ≡ [] = drop_of_length-le ps h in
+        (sym (take-append-drop j ps) ∙ ap (λ l. take j ps ++ l) none ∙ rw none at (sym e.pivots), rw none at (sym e.came))
 
-  pub enters_skip : (bit_and (d / 2 ^ j) 1 ≡ 1 → ⊥) → entered (k - j) j ps d ≡ entered (k - (j + 1)) (j + 1) ps d
-  unfolding entered
-  enters_skip b = rw (left_more k j h, add-one j) (rw (ne_eqb _ _ b))
+    module _ (h : j < length ps) where
+      pub enter_set : bit_and (d / 2 ^ j) 1 ≡ 1 → get_or ps j 0 ≡ 0 → (set ps j d ≡ end.0) × (true ≡ end.1)
+      unfolding entered
+      enter_set b z =
+          let next : drop j ps ≡ get_or ps j 0 ∷ drop (suc j) ps = drop-cons ps j 0 h in
+          let is : entered j (drop j ps) d ≡ (d ∷ drop (suc j) ps, true) = rw next (rw (eq-eqb _ _ b, eq-eqb _ _ z)) in (
+            sym (take-append-drop j (set ps j d)) ∙ ap₂ ◌++◌ (take-set ps j d) (drop-set ps j d h ∙ ap (λ i. d ∷ drop i ps) (add-one j))
+                ∙ ap (λ (p : List ℕ × Bool). take j ps ++ p.0) (sym is) ∙ sym e.pivots,
+            ap (λ (p : List ℕ × Bool). p.1) (sym is) ∙ sym e.came,
+          )
 
-pub enters_none : (k j : ℕ) (ps : List ℕ) (d : ℕ) → k ≤ j → entered (k - j) j ps d ≡ (ps, 0)
-unfolding entered
-enters_none k j ps d h = let e : k - j ≡ 0 = omega arith in rw e
+      next_turn : (d' : ℕ) → entered j (drop j ps) d ≡ (get_or ps j 0 ∷ (entered (suc j) (drop (suc j) ps) d').0, (entered (suc j) (drop (suc j) ps) d').1)
+          → Entering ps (j + 1) d' end
+      next_turn d' is = rw (add-one j) (record {
+        pivots = e.pivots ∙ ap (λ (p : List ℕ × Bool). take j ps ++ p.0) is ∙ sym (append_snoc (take j ps) (get_or ps j 0) _)
+            ∙ ap (λ l. l ++ (entered (suc j) (drop (suc j) ps) d').0) (sym (take_more ps j 0 h) ∙ ap (λ i. take i ps) (add-one j));
+        came = e.came ∙ ap (λ (p : List ℕ × Bool). p.1) is;
+      })
 
-pub came_le : (n j : ℕ) (ps : List ℕ) (d : ℕ) → (entered n j ps d).1 ≤ 1
-unfolding entered
-came_le zero j ps d = omega arith
-came_le (suc n) j ps d =
-    go (eqb (bit_and (d / 2 ^ j) 1) 1) (eqb (get_or ps j 0) 0) (entered n (suc j) ps (bit_xor d (get_or ps j 0))) (entered n (suc j) ps d)
-    (came_le n (suc j) ps (bit_xor d (get_or ps j 0))) (came_le n (suc j) ps d)
-  where
-    go : (a b : Bool) (x y : List ℕ × ℕ) → x.1 ≤ 1 → y.1 ≤ 1 → (cond a (cond b (set ps j d, 1) x) y).1 ≤ 1
-    go true true x y p q = omega arith
-    go true false x y p q = p
-    go false b x y p q = q
+      pub enter_add : bit_and (d / 2 ^ j) 1 ≡ 1 → (get_or ps j 0 ≡ 0 → ⊥) → Entering ps (j + 1) (bit_xor d (get_or ps j 0)) end
+      unfolding entered
+      enter_add b z = next_turn _ (rw (drop-cons ps j 0 h) (rw (eq-eqb _ _ b, ne_eqb _ _ z)))
 
--- at most as many pivots and allowed patterns as patterns
-abbrev pub Few : ℕ → Basis → Type 0
-Few p s = (s.allowed ≤ p) × (s.rank ≤ p)
+      pub enter_skip : (bit_and (d / 2 ^ j) 1 ≡ 1 → ⊥) → Entering ps (j + 1) d end
+      unfolding entered
+      enter_skip b = next_turn _ (rw (drop-cons ps j 0 h) (rw (ne_eqb _ _ b)))
 
-pub few_seen : (k p : ℕ) (s : Basis) → Few p s → Few (p + 1) (seen k p s)
-unfolding seen
-few_seen k p s f = go (eqb s.allowed 0) (entered k 0 s.pivots (bit_xor s.anchor p)) (came_le k 0 s.pivots (bit_xor s.anchor p))
-  where
-    go : (b : Bool) (e : List ℕ × ℕ) → e.1 ≤ 1
-        → Few (p + 1)
-        (cond b (record { pivots = s.pivots; rank = s.rank; allowed = 1; anchor = p })
-        (record { pivots = e.0; rank = s.rank + e.1; allowed = s.allowed + 1; anchor = s.anchor }))
-    go true e h = (omega arith, omega arith)
-    go false e h = (omega arith, omega arith)
-
-module _ (k : ℕ) (ws : List ℕ) (n p : ℕ) (h : p < n) where
-  pub span_skip : (s : Basis) → forbids ws p ≡ true → span_from k ws (n - p) p s ≡ span_from k ws (n - (p + 1)) (p + 1) s
-  unfolding span_from
-  span_skip s b = rw (left_more n p h, add-one p) (rw b)
-
-  pub span_next : (s : Basis) → forbids ws p ≡ false → ((seen k p s).rank ≡ k → ⊥)
-      → span_from k ws (n - p) p s ≡ span_from k ws (n - (p + 1)) (p + 1) (seen k p s)
-  unfolding span_from
-  span_next s b r = rw (left_more n p h, add-one p) (rw (b, ne_eqb _ _ r))
-
-  pub span_full : (s : Basis) → forbids ws p ≡ false → (seen k p s).rank ≡ k
-      → span_from k ws (n - p) p s ≡ counting (length (allowed_from (forbids ws) k (n - (p + 1)) (p + 1))) (seen k p s)
-  unfolding span_from
-  span_full s b r = rw (left_more n p h, add-one p) (rw (b, eq-eqb _ _ r))
-
-  pub count_skip : forbids ws p ≡ true → allowed_from (forbids ws) k (n - p) p ≡ allowed_from (forbids ws) k (n - (p + 1)) (p + 1)
-  unfolding allowed_from
-  count_skip b = rw (left_more n p h, add-one p) (rw b)
-
-  pub count_next : forbids ws p ≡ false
-      → length (allowed_from (forbids ws) k (n - p) p) ≡ suc (length (allowed_from (forbids ws) k (n - (p + 1)) (p + 1)))
-  unfolding allowed_from
-  count_next b = rw (left_more n p h, add-one p) (rw b)
-
-pub count_le : (f : ℕ → Bool) (k n p : ℕ) → length (allowed_from f k n p) ≤ n
-unfolding allowed_from
-count_le f k zero p = omega arith
-count_le f k (suc n) p = go (f p) (count_le f k n (suc p))
-  where
-    later : List Pattern
-    later = allowed_from f k n (suc p)
-
-    go : (b : Bool) → length later ≤ n → length (cond b later (atoms_of k p ∷ later)) ≤ suc n
-    go true h = omega arith
-    go false h = omega arith
-
-pub reach_turn : (ps : List ℕ) (j c : ℕ) → 0 < j → reach ps j c ≡ reach ps (j - 1) (bit_xor c (ones (bit_and c (get_or ps (j - 1) 0)) % 2 * 2 ^ (j - 1)))
+pub reach_turn : (ps : List ℕ) (j c : ℕ) → 0 < j → reach ps j c ≡ reach ps (j - 1) (bit_xor c (bit (odd (ones (bit_and c (get_or ps (j - 1) 0)))) * 2 ^ (j - 1)))
 unfolding reach
 reach_turn ps zero c h = let z : ⊥ = omega arith in absurd z
 reach_turn ps (suc j) c h = let e : suc j - 1 ≡ j = omega arith in rw e

@@ -1,50 +1,63 @@
--- What the private functions of `hull` do, as the code's own recursion on numbers, for their contracts alone: no reader has to believe
--- it, since the proofs lead from it to `hull_of` and only the contract of `propose` is public.
-use Rattle.std.specs.Prelude.{ℕ, zero, suc, ◌+◌, ◌*◌, ◌/◌, ◌%◌, ◌^◌, List, [], ◌∷◌, cond, length, get_or, set, replicate, eqb}
+-- What the private functions of `hull` do, on numbers, for their contracts alone: no reader has to believe it, since the proofs lead
+-- from it to `hull_of` and only the contract of `propose` is public.
+use Rattle.std.specs.Prelude.{ℕ, zero, suc, ◌+◌, ◌-◌, ◌*◌, ◌/◌, ◌^◌, List, [], ◌∷◌, ◌++◌, Bool, true, false, cond, ◌&&◌, Option, Some, None, length, get_or, take, drop, replicate, eqb}
+use Rattle.std.proofs.Math.Option as place
+use Rattle.std.proofs.Math.Option.{none, some}
 use Rattle.std.specs.Int.Bits.{bit_and, bit_xor}
 use Rattle.std.specs.Int.Count.{ones}
 use Rattle.words.specs.Set.{odd}
-use Rattle.hull.specs.Table.{forbids, allowed_from}
+use Rattle.rows.specs.Flat.{mask_of}
+use Rattle.hull.specs.Table.{Pattern}
+use Rattle.hull.specs.Equations.{Pivots, pivots_from, rank}
 use Rattle.hull.specs.Propose.{limit, padded}
 use Rattle.hull.specs.declared.LocalEquation.{LocalEquation}
 use Rattle.hull.specs.declared.Hull.{Hull}
 use Rattle.hull.specs.declared.Basis.{Basis}
 
--- `enter`, at n positions from j on: the pivots, and how many came to them.
-unfoldable pub entered : ℕ → ℕ → List ℕ → ℕ → List ℕ × ℕ
-entered zero j ps d = (ps, 0)
-entered (suc n) j ps d =
-    cond (eqb (bit_and (d / 2 ^ j) 1) 1)
-    (cond (eqb (get_or ps j 0) 0) (set ps j d, 1) (entered n (suc j) ps (bit_xor d (get_or ps j 0))))
-    (entered n (suc j) ps d)
+abbrev pub bit : Bool → ℕ
+bit b = cond b 1 0
 
-unfoldable pub seen : ℕ → ℕ → Basis → Basis
-seen k p s =
-    let e = entered k 0 s.pivots (bit_xor s.anchor p) in
-    cond (eqb s.allowed 0) (record { pivots = s.pivots; rank = s.rank; allowed = 1; anchor = p })
-    (record { pivots = e.0; rank = s.rank + e.1; allowed = s.allowed + 1; anchor = s.anchor })
+-- `enter`, at the positions from j on: the pivots, and whether one came to them.
+unfoldable pub entered : ℕ → List ℕ → ℕ → List ℕ × Bool
+entered j [] d = ([], false)
+entered j (p ∷ ps) d =
+    let has = eqb (bit_and (d / 2 ^ j) 1) 1 in
+    let later = entered (suc j) ps (cond has (bit_xor d p) d) in
+    cond (has && eqb p 0) (d ∷ ps, true) (p ∷ later.0, later.1)
 
--- `span`, over n patterns from p on: once the rank is full they are only counted.
-abbrev pub counting : ℕ → Basis → Basis
-counting n s = record { pivots = s.pivots; rank = s.rank; allowed = s.allowed + n; anchor = s.anchor }
+-- `see`: the difference enters the pivots of k positions.
+unfoldable pub seen : ℕ → Basis → ℕ → Basis
+seen k s p =
+    let e = entered 0 (take k s.pivots) (bit_xor s.anchor p) in
+    record s { pivots = e.0 ++ drop k s.pivots; rank = s.rank + bit e.1; allowed = s.allowed + 1 }
 
-unfoldable pub span_from : ℕ → List ℕ → ℕ → ℕ → Basis → Basis
-span_from k ws zero p s = s
-span_from k ws (suc n) p s =
-    let t = seen k p s in
-    cond (forbids ws p) (span_from k ws n (suc p) s)
-    (cond (eqb t.rank k) (counting (length (allowed_from (forbids ws) k n (suc p))) t) (span_from k ws n (suc p) t))
+-- The pivots as numbers: one from its own position on, with its bits in place, or 0; and 0 past the last of k positions.
+abbrev pub headed : place.Option (List Bool) → List Bool
+headed none = []
+headed (some t) = true ∷ t
 
-unfoldable pub spanned : ℕ → List ℕ → Basis
-unfolding span_from
-spanned k ws = span_from k ws (2 ^ k) 0 (record { pivots = replicate limit 0; rank = 0; allowed = 0; anchor = 0 })
+abbrev pub placed : ℕ → Pivots → List ℕ
+placed j [] = []
+placed j (s ∷ ss) = mask_of (headed s) * 2 ^ j ∷ placed (suc j) ss
+
+abbrev pub array : ℕ → Pivots → List ℕ
+array k ss = placed 0 ss ++ replicate (limit - k) 0
+
+-- A basis of n allowed patterns, the first of them a.
+abbrev pub basis : ℕ → Pattern → Pivots → ℕ → Basis
+basis k a ss n = record { anchor = mask_of a; pivots = array k ss; rank = rank ss; allowed = n }
+
+-- `span`: what all allowed patterns leave.
+abbrev pub found : ℕ → List Pattern → Option Basis
+found k [] = None
+found k (a ∷ xs) = Some (basis k a (pivots_from a (replicate k none) xs) (suc (length xs)))
 
 -- `equation`, at the positions below j.
 unfoldable pub reach : List ℕ → ℕ → ℕ → ℕ
 reach ps zero c = c
-reach ps (suc j) c = reach ps j (bit_xor c (ones (bit_and c (get_or ps j 0)) % 2 * 2 ^ j))
+reach ps (suc j) c = reach ps j (bit_xor c (bit (odd (ones (bit_and c (get_or ps j 0)))) * 2 ^ j))
 
--- `list`, at n positions from j on.
+-- `equations`, at n positions from j on.
 abbrev pub within : ℕ → ℕ → LocalEquation
 within anchor c = record { coefficients = c; constant = odd (ones (bit_and c anchor)) }
 

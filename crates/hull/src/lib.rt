@@ -2,12 +2,16 @@
 // Every call is total; specs/Propose.antt has its answer, specs/Steps.antt what the private functions do on the way to it.
 #![tactic(auto)]
 
-ghost use Rattle.std.specs.Prelude.{◌≡◌, ◌/◌, ◌%◌, ◌^◌, ◌-◌, ◌≤◌, ◌<◌, [], length};
+ghost use Rattle.std.specs.Prelude.{◌≡◌, ℕ, ◌^◌, ◌-◌, ◌*◌, ◌/◌, ◌≤◌, ◌<◌, true, false, [], length, replicate, not, count_by, MatchOption};
 ghost use Rattle.std.specs.Int.Count.{ones};
-ghost use Rattle.hull.specs.Table.{forbids, allowed_from};
+ghost use Rattle.std.specs.List.{range_with_len};
+ghost use Rattle.words.specs.Set.{odd};
+ghost use Rattle.hull.specs.Table.{forbids, allowed};
 ghost use Rattle.hull.specs.Equations.{hull_from};
-ghost use Rattle.hull.specs.Propose.{limit, table_words, told, refused, proposal_of};
-ghost use Rattle.hull.specs.Steps.{entered, seen, spanned, reach, listing};
+ghost use Rattle.hull.specs.Propose.{limit, told, proposal_of};
+ghost use Rattle.hull.specs.Steps.{entered, seen, found, reach, listing};
+
+use refusal::Refusal;
 
 pub mod promises;
 
@@ -34,124 +38,40 @@ pub struct Hull {
     pub exact: bool,
 }
 
-// `propose` answers 0 and the hull, or 17 and 0 in every other field.
-#[repr(C)]
-#[derive(Clone, Copy)]
-pub struct Proposal {
-    pub number: usize,
-    pub hull: Hull,
-}
-
-// The least-bit echelon of the differences from the anchor, and how many patterns were allowed; at 0 there is no anchor yet.
+// The anchor, the least-bit echelon of the differences from it, and how many patterns were allowed.
 #[derive(Clone, Copy)]
 struct Basis {
+    anchor: u8,
     pivots: [u8; 8],
     rank: usize,
     allowed: usize,
-    anchor: u8,
 }
 
-fn is_forbidden(forbidden: &[u64], pattern: usize) -> bool
-    requires { pattern / 64 < length forbidden.now }
-    ensures { result ≡ forbids forbidden.now pattern }
+// Whether an odd number of bits is set.
+fn is_odd(bits: u8) -> bool
+    ensures { result ≡ odd (ones bits) }
 {
-    forbidden[pattern / 64] & (1 << (pattern % 64)) != 0
-}
-
-// Whether an odd number of bits is set, as a bit.
-fn parity(bits: u8) -> u8
-    ensures { result ≡ ones bits % 2 }
-{
-    (u8::count_ones(bits) % 2) as u8
+    u8::count_ones(bits) % 2 == 1
 }
 
 // Reduces a difference at its set bits, from bit 0 upward, and makes what is left at the first place without a pivot that place's
-// pivot. Says how many pivots came.
-fn enter(pivots: &mut [u8; 8], k: usize, difference: u8) -> usize
-    requires { k ≤ limit }
-    ensures pivots { pivots.new ≡ (entered k 0 pivots.old difference).0 }
-    ensures came { result ≡ (entered k 0 pivots.old difference).1 }
+// pivot. Says whether one came.
+fn enter(pivots: &mut [u8], difference: u8) -> bool
+    requires { length pivots.old ≤ limit }
+    ensures pivots { pivots.new ≡ (entered 0 pivots.old difference).0 }
+    ensures came { result ≡ (entered 0 pivots.old difference).1 }
 {
     let mut left = difference;
-    let mut position = 0;
-    while position < k {
+    for (position, pivot) in pivots.iter_mut().enumerate() {
         if (left >> position) & 1 == 1 {
-            let pivot = pivots[position];
-            if pivot == 0 {
-                pivots[position] = left;
-                return 1;
+            if *pivot == 0 {
+                *pivot = left;
+                return true;
             }
-            left = left ^ pivot;
+            left ^= *pivot;
         }
-        position += 1;
     }
-    0
-}
-
-// An allowed pattern: the first is the anchor, of the others the difference enters.
-fn see(s: Basis, k: usize, pattern: u8) -> Basis
-    requires { (k ≤ limit) × (s.allowed ≤ 2 ^ 8) × (s.rank ≤ 2 ^ 8) }
-    ensures { result ≡ seen k pattern s }
-{
-    let mut pivots = s.pivots;
-    if s.allowed == 0 {
-        return Basis {
-            pivots: pivots,
-            rank: s.rank,
-            allowed: 1,
-            anchor: pattern,
-        };
-    }
-    let came = enter(&mut pivots, k, s.anchor ^ pattern);
-    Basis {
-        pivots: pivots,
-        rank: s.rank + came,
-        allowed: s.allowed + 1,
-        anchor: s.anchor,
-    }
-}
-
-// How many patterns from one on are allowed.
-fn allowed_from(k: usize, forbidden: &[u64], first: usize) -> usize
-    requires { (k ≤ limit) × (length forbidden.now ≡ table_words k) × (first ≤ 2 ^ k) }
-    ensures { result ≡ length (allowed_from (forbids forbidden.now) k (2 ^ k - first) first) }
-{
-    let patterns: usize = 1 << k;
-    let mut count: usize = 0;
-    let mut pattern = first;
-    while pattern < patterns {
-        if !is_forbidden(forbidden, pattern) {
-            count += 1;
-        }
-        pattern += 1;
-    }
-    count
-}
-
-// The span of the differences. Full rank settles it, but not whether every pattern is allowed: the others are still counted.
-fn span(k: usize, forbidden: &[u64]) -> Basis
-    requires { (k ≤ limit) × (length forbidden.now ≡ table_words k) }
-    ensures { result ≡ spanned k forbidden.now }
-{
-    let patterns: usize = 1 << k;
-    let mut s = Basis {
-        pivots: [0; 8],
-        rank: 0,
-        allowed: 0,
-        anchor: 0,
-    };
-    let mut pattern = 0;
-    while pattern < patterns {
-        if !is_forbidden(forbidden, pattern) {
-            s = see(s, k, pattern as u8);
-            if s.rank == k {
-                s.allowed = s.allowed + allowed_from(k, forbidden, pattern + 1);
-                return s;
-            }
-        }
-        pattern += 1;
-    }
-    s
+    false
 }
 
 // The equation of a place without a pivot: its bit, and those of lower pivots that make every overlap even. Higher ones have none.
@@ -160,93 +80,139 @@ fn equation(pivots: &[u8; 8], free: usize) -> u8
     ensures { result ≡ reach pivots.now free (2 ^ free) }
 {
     let mut coefficients: u8 = 1 << free;
-    let mut position = free;
-    while position > 0 {
-        position -= 1;
-        coefficients = coefficients ^ (parity(coefficients & pivots[position]) << position);
+    for position in (0..free).rev() {
+        coefficients ^= u8::from(is_odd(coefficients & pivots[position])) << position;
     }
     coefficients
 }
 
-// One equation for each place without a pivot, rising; the anchor gives its constant.
-fn list(s: Basis, k: usize) -> Hull
-    requires { (k ≤ limit) × (s.rank ≤ k) }
-    ensures { result ≡ listing k s }
-{
-    let pivots = s.pivots;
-    let anchor = s.anchor;
-    let mut equations = [BLANK; 8];
-    let mut count = 0;
-    let mut free = 0;
-    while free < k {
-        if pivots[free] == 0 {
-            let coefficients = equation(&pivots, free);
-            equations[count] = LocalEquation {
-                coefficients: coefficients,
-                constant: parity(coefficients & anchor) == 1,
-            };
-            count += 1;
+impl Basis {
+    // The first allowed pattern is the anchor.
+    fn new(anchor: u8) -> Basis
+        ensures { result ≡ record { anchor = anchor; pivots = replicate limit 0; rank = 0; allowed = 1 } }
+    {
+        Basis {
+            anchor,
+            pivots: [0; 8],
+            rank: 0,
+            allowed: 1,
         }
-        free += 1;
     }
-    Hull {
-        equations: equations,
-        count: count,
-        exact: s.allowed == 1 << s.rank,
+
+    // One more allowed pattern: its difference from the anchor enters.
+    fn see(&mut self, k: usize, pattern: u8)
+        requires { (k ≤ limit) × (self.old.rank ≤ 2 ^ 8) × (self.old.allowed ≤ 2 ^ 8) }
+        ensures { self.new ≡ seen k self.old pattern }
+    {
+        let difference = self.anchor ^ pattern;
+        let came = enter(&mut self.pivots[..k], difference);
+        self.rank += usize::from(came);
+        self.allowed += 1;
+    }
+
+    // One equation for each place without a pivot, rising; the anchor gives its constant.
+    fn equations(&self, k: usize) -> Hull
+        requires { (k ≤ limit) × (self.now.rank ≤ k) }
+        ensures { result ≡ listing k self.now }
+    {
+        let mut equations = [BLANK; 8];
+        let mut count = 0;
+        for free in 0..k {
+            if self.pivots[free] == 0 {
+                let coefficients = equation(&self.pivots, free);
+                equations[count] = LocalEquation {
+                    coefficients,
+                    constant: is_odd(coefficients & self.anchor),
+                };
+                count += 1;
+            }
+        }
+        Hull {
+            equations,
+            count,
+            exact: self.allowed == 1 << self.rank,
+        }
     }
 }
 
-// A refused call: its number, and 0 in every other field.
-fn unfit() -> Proposal
-    ensures { result ≡ refused limit 17 }
+// Whether a pattern is forbidden. With `words::contains` in its place, which asks at each pattern whether the table has that word,
+// `propose` of 8 atoms took a quarter longer.
+fn is_forbidden(forbidden: &[u64], pattern: usize) -> bool
+    requires { pattern / 64 < length forbidden.now }
+    ensures { result ≡ forbids forbidden.now pattern }
 {
-    Proposal {
-        number: 17,
-        hull: Hull {
-            equations: [BLANK; 8],
-            count: 0,
-            exact: false,
-        },
+    forbidden[pattern / 64] & (1 << (pattern % 64)) != 0
+}
+
+// The first allowed pattern of n.
+fn first_allowed(forbidden: &[u64], patterns: usize) -> Option<usize>
+    requires { patterns ≤ length forbidden.now * 64 }
+    ensures { MatchOption result
+        ((p : ℕ) → p < patterns → forbids forbidden.now p ≡ true)
+        (λ a. (a < patterns) × (forbids forbidden.now a ≡ false) × ((p : ℕ) → p < a → forbids forbidden.now p ≡ true)) }
+{
+    (0..patterns).find(|pattern| !is_forbidden(forbidden, *pattern))
+}
+
+// How many patterns from one on are allowed.
+fn count_allowed(forbidden: &[u64], first: usize, patterns: usize) -> usize
+    requires { patterns ≤ length forbidden.now * 64 }
+    ensures { result ≡ count_by (λ p. not (forbids forbidden.now p)) (range_with_len first (patterns - first)) }
+{
+    (first..patterns)
+        .filter(|pattern| !is_forbidden(forbidden, *pattern))
+        .count()
+}
+
+// The span of the differences, where a pattern is allowed. Full rank settles it, but not whether every pattern is allowed: the
+// others are still counted.
+fn span(k: usize, forbidden: &[u64]) -> Option<Basis>
+    requires atoms { k ≤ limit }
+    requires table { 2 ^ k ≤ length forbidden.now * 64 }
+    ensures { result ≡ found k (allowed k forbidden.now) }
+{
+    let patterns: usize = 1 << k;
+    let anchor = first_allowed(forbidden, patterns)?;
+    let mut basis = Basis::new(anchor as u8);
+    for pattern in anchor + 1..patterns {
+        if !is_forbidden(forbidden, pattern) {
+            basis.see(k, pattern as u8);
+            if basis.rank == k {
+                basis.allowed += count_allowed(forbidden, pattern + 1, patterns);
+                return Some(basis);
+            }
+        }
     }
+    Some(basis)
 }
 
 // No pattern is allowed: 0 = 1.
 fn impossible() -> Hull
-    ensures { result ≡ (told limit (hull_from 0 [])).hull }
+    ensures { result ≡ told limit (hull_from 0 []) }
 {
     let mut equations = [BLANK; 8];
-    equations[0] = LocalEquation {
-        coefficients: 0,
-        constant: true,
-    };
+    equations[0].constant = true;
     Hull {
-        equations: equations,
+        equations,
         count: 1,
         exact: true,
     }
 }
 
 // The equations of the table of k atoms that forbids the patterns whose bits are set.
-pub fn propose(k: usize, forbidden: &[u64]) -> Proposal
+pub fn propose(k: usize, forbidden: &[u64]) -> Result<Hull, Refusal>
     ensures { result ≡ proposal_of limit k forbidden.now }
 {
     if k > 8 {
-        return unfit();
+        return Err(Refusal::Table);
     }
     let patterns: usize = 1 << k;
     if forbidden.len() != (patterns + 127) / 128 * 2 {
-        return unfit();
+        return Err(Refusal::Table);
     }
-    let s = span(k, forbidden);
-    if s.allowed == 0 {
-        return Proposal {
-            number: 0,
-            hull: impossible(),
-        };
-    }
-    let hull = list(s, k);
-    Proposal {
-        number: 0,
-        hull: hull,
-    }
+    let hull = match span(k, forbidden) {
+        None => impossible(),
+        Some(basis) => basis.equations(k),
+    };
+    Ok(hull)
 }

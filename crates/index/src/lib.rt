@@ -3,30 +3,27 @@
 #![tactic(auto)]
 
 ghost use Rattle.std.specs.Prelude.{◌≡◌, ◌+◌, ◌*◌, ◌^◌, ◌≤◌, length, leb};
+ghost use Rattle.std.specs.Option.{option_copied};
 ghost use Rattle.words.specs.Set.{set_of};
 ghost use Rattle.rows.specs.Flat.{row};
 ghost use Rattle.rows.specs.Calls.{part_of};
 ghost use Rattle.index.specs.Index.{column_width};
-ghost use Rattle.index.specs.Column.{over_rank, column_unfit, wanted_column};
+ghost use Rattle.index.specs.Column.{over_rank, column_check, wanted_column};
 
+use fit::LIMIT;
+use refusal::Refusal;
 use rows::Atom;
 
-// The most atoms, and the highest rank.
-const LIMIT: usize = 512;
-
-// "Columns of 2·ceil(rank/128) words"
+// "Columns of 2·ceil(rank/128) words". A row has ceil(n/64) (`rows::width`): with the unit as a parameter, each call of either would say its own.
 pub fn column_width(rank: usize) -> usize
     ensures { result ≡ column_width rank }
 {
-    if rank % 128 == 0 {
-        return rank / 128 * 2;
-    }
-    (rank / 128 + 1) * 2
+    rank.div_ceil(128) * 2
 }
 
-// The words of an atom's column, or none where it does not lie within the index.
-pub fn column_at(index: &[u64], width: usize, atom: Atom) -> &[u64]
-    ensures { result.now ≡ part_of width index.now atom.0 }
+// The words of an atom's column, if it lies within the index.
+pub fn column_at(index: &[u64], width: usize, atom: Atom) -> Option<&[u64]>
+    ensures { option_copied result ≡ part_of width index.now atom.0 }
 {
     rows::part(index, width, atom.0)
 }
@@ -51,48 +48,46 @@ fn overranks(index: &[u64], rank: usize, width: usize, atom: Atom) -> bool
 }
 
 // Whether one of the first n columns has a bit from the rank on. The loop has no early exit, as in `fit::any_strays`.
+#[tactic(auto, using(crate::proofs::Overrank::over_start, crate::proofs::Overrank::over_step))]
 fn any_overranks(index: &[u64], rank: usize, width: usize, n: usize) -> bool
     requires { (width ≡ column_width rank) × (n * width ≤ length index.now) }
     ensures { result ≡ over_rank rank width index.now n }
 {
     let mut over = false;
-    let mut a = 0;
-    while a < n {
-        over = over | overranks(index, rank, width, Atom(a));
-        a += 1;
+    for a in 0..n {
+        over |= overranks(index, rank, width, Atom(a));
     }
     over
 }
 
-// The number under which an atom's column is refused, or 0.
-pub fn column_number(index: &[u64], n: usize, rank: usize, atom: Atom) -> usize
-    ensures { result ≡ column_unfit index.now n rank atom }
+// Whether an atom's column can be given back.
+#[tactic(auto, unfolding(crate::specs::Column::column_check))]
+pub fn check_column(index: &[u64], n: usize, rank: usize, atom: Atom) -> Result<(), Refusal>
+    ensures { result ≡ column_check index.now n rank atom }
 {
-    if n > LIMIT {
-        return 10;
-    }
-    if rank > LIMIT {
-        return 10;
+    if n > LIMIT || rank > LIMIT {
+        return Err(Refusal::Overfull);
     }
     let width = column_width(rank);
     if index.len() < n * width {
-        return 9;
+        return Err(Refusal::Short);
     }
     if any_overranks(index, rank, width, n) {
-        return 14;
+        return Err(Refusal::Index);
     }
     if atom.0 >= n {
-        return 18;
+        return Err(Refusal::Atom);
     }
-    0
+    Ok(())
 }
 
 // "The column of an atom is given back as that part of the lent index"; refused, it is the index's first 0 words.
+#[tactic(auto, using(crate::proofs::Wanted::wanted_part), unfolding(crate::specs::Column::wanted_column))]
 pub fn column(index: &[u64], n: usize, rank: usize, atom: Atom) -> &[u64]
     ensures { result.now ≡ wanted_column index.now n rank atom }
 {
-    if column_number(index, n, rank, atom) != 0 {
-        return &index[..0];
+    match check_column(index, n, rank, atom) {
+        Ok(()) => column_at(index, column_width(rank), atom).unwrap(),
+        Err(_) => &index[..0],
     }
-    column_at(index, column_width(rank), atom)
 }

@@ -1,6 +1,6 @@
 -- The forced list applied one atom after another: what a bit set in the masks makes of a batch, and the list applied up to an entry.
 use Prim.Native.Nat.{ℕ, zero, suc, ◌+◌, ◌/◌, ◌^◌, ◌≤◌, ◌<◌}
-use mathlib.Core.Path.{◌≡◌, refl, sym, ap, ap₂, ◌∙◌}
+use mathlib.Core.Path.{◌≡◌, refl, sym, ap, ap₂, ◌∙◌, subst}
 use mathlib.Core.List.{List, [], ◌∷◌, ◌++◌, map, zip_with}
 use mathlib.Core.Bool.{Bool, true, false, cond, not, beq, true≢false}
 use mathlib.Core.Option.{Option, none, some}
@@ -18,10 +18,14 @@ use Rattle.rows.specs.declared.Atom.{Atom}
 use Rattle.echelon.proofs.Written.{unpack_length}
 use Rattle.region.specs.Masks.{decisions, is_held, is_cut, region_of}
 use Rattle.region.specs.Calls.{decided}
-use Rattle.region.specs.declared.Decided.{Decided}
+use Rattle.std.specs.Prelude.{Result, Ok}
+use Rattle.refusal.specs.Refusal.{given_or}
+use Rattle.refusal.specs.declared.Refusal.{Refusal}
+use Rattle.region.specs.declared.Answer.{Answer}
+use Rattle.region.specs.declared.Answer.TheVariants.{Same}
 use Rattle.region.specs.declared.Region.{Region}
-use Rattle.region.proofs.Masked.{Eight, decide_fits, decide_known, decisions_length, fitting, held_has, cut_has}
-use Rattle.region.proofs.Deciding.{mask_at, taking, taken}
+use Rattle.region.proofs.Masked.{Eight, decide_fits, decisions_length, fitting, held_has, cut_has}
+use Rattle.region.proofs.Deciding.{mask_at, taking, taken, settled_known}
 use Rattle.inspect.specs.Batch.{Batch, begun, forced_on, next, applied}
 use Rattle.inspect.specs.Inspect.{atoms_from, values_from}
 use Rattle.inspect.specs.Steps.{forced_in, Applicable, applied_of, tallied, Forcible, Forcing}
@@ -145,9 +149,9 @@ module _ (a : Atom) (v : Bool) (n : ℕ) (b : Batch) (can : Forcible b a.0) wher
   -- an open atom's bit set in the mask of its value
   taking_is : was ≡ none → taking v (region_of b.decisions) a.0 ≡ region_of (set b.decisions a.0 (some v))
   taking_is e =
-      ap (λ (d : Decided). d.region)
-      (taken (region_of b.decisions) a _ refl (decide_fits b.decisions can.few a can.below) (eight_words b.decisions) v (without v) (without (not v))
-      ∙ decide_known v b.decisions can.few a can.below ∙ ap (decided b.decisions a.0 v) e)
+      ap (λ (q : Result (Answer × Region) Refusal). (given_or q (Same, region_of b.decisions)).1)
+      (taken (region_of b.decisions) a (decide_fits b.decisions can.few a can.below) (eight_words b.decisions) v (without v) (without (not v))
+      ∙ settled_known v b.decisions can.few a can.below ∙ ap (λ (d : Option Bool). Ok (decided b.decisions a.0 v d)) e)
     where
       without : (w : Bool) → has (set_of (mask_at w (region_of b.decisions))) a.0 ≡ false
       without true = held_has b.decisions can.few a.0 ∙ ap is_held e
@@ -201,6 +205,13 @@ module _ (a : Atom) (v : Bool) (n : ℕ) (b : Batch) (can : Forcible b a.0) wher
           ∙ ap (λ (w : Bool). tallied n (cond w (inserted held a.0) held) (cond w cut (inserted cut a.0))
           (record { held = t.held + cond w 1 0; cut = t.cut + cond w 0 1; against = false })) (sym e)
           ∙ forcing_open
+
+-- an atom and a value that are entry i of the lists
+pub made_at : (us vs : List ℕ) (i a v : ℕ) (held cut : List ℕ) (t : Tally) (held' cut' : List ℕ) (t' : Tally) → a ≡ get_or us i 0 → v ≡ get_or vs i 0
+    → Forcing a (eqb v 1) held cut t held' cut' t' → Forcing (get_or us i 0) (eqb (get_or vs i 0) 1) held cut t held' cut' t'
+made_at us vs i a v held cut t held' cut' t' is-a is-v made =
+    subst (λ (b : ℕ). Forcing b (eqb (get_or vs i 0) 1) held cut t held' cut' t') is-a
+    (subst (λ (w : ℕ). Forcing a (eqb w 1) held cut t held' cut' t') is-v made)
 
 -- ---- the list applied up to entry i, none of it against
 

@@ -6,6 +6,7 @@ use native.Mathlib.Omega.{arith}
 use borrow.Author.Tests.{ltb-false, eqb-true, not-true, not-false, le-ltb, eq-eqb}
 use lib.ListN.{length, get_or}
 use lib.Dec.{ltb, eqb}
+use Rattle.std.specs.Prelude.{Ok}
 use Rattle.rows.specs.Flat.{width_of}
 use Rattle.fit.specs.Rows.{overfull, short, strays, misnames}
 use Rattle.fit.proofs.Among.{or_none}
@@ -14,12 +15,12 @@ use Rattle.fit.proofs.Naming.{names_each, names_none}
 use Rattle.index.specs.Index.{column_width}
 use Rattle.index.specs.Column.{over_rank}
 use Rattle.parity.specs.declared.System.{System}
-use Rattle.region.specs.Calls.{strayed, clashes, region_unfit}
+use Rattle.region.specs.Calls.{strayed, clashes, region_check}
 use Rattle.region.specs.declared.Region.{Region}
 use Rattle.snapshot.specs.Knowledge.{overfull_by, unequal, missing}
 use Rattle.snapshot.specs.declared.Snapshot.{Snapshot}
 use Rattle.snapshot.proofs.Chained.{and_none}
-use Rattle.inspect.specs.Inspect.{Filled, lists_short, inspect_unfit}
+use Rattle.inspect.specs.Inspect.{Filled, lists_short, inspect_check}
 
 pub record Fits (s : System) (l : Filled) (r : Region) (known : Snapshot) (atoms values : ℕ) : Type 0 where
   pub lent : Fit s.atoms s.rows l.rows l.constants
@@ -28,7 +29,7 @@ pub record Fits (s : System) (l : Filled) (r : Region) (known : Snapshot) (atoms
   pub columns : s.atoms * column_width s.rank ≤ length l.index
   pub atoms_room : s.rank ≤ atoms
   pub values_room : s.rank ≤ values
-  pub region : region_unfit r ≡ 0
+  pub region : region_check r ≡ Ok tt
   pub named : (j : ℕ) → j < s.rank → get_or l.basis j 0 < s.rows
   pub below_rank : s.refuted ≡ false → over_rank s.rank (column_width s.rank) l.index s.atoms ≡ false
   pub same_atoms : r.atoms ≡ s.atoms
@@ -42,18 +43,18 @@ under_back true b h = h refl
 under_back false b h = refl
 
 module _ (s : System) (l : Filled) (r : Region) (known : Snapshot) (atoms values : ℕ) where
-  pub unfit_fits : inspect_unfit s l r known atoms values ≡ 0 → Fits s l r known atoms values
-  unfolding inspect_unfit region_unfit
-  unfit_fits e =
-      let full = passed (overfull_by s r known) 9 _ e in
-      let rank = passed (ltb (min s.rows s.atoms) s.rank) 12 _ full.1 in
-      let nine = passed (short s.atoms s.rows l.rows l.constants || lists_short s (length l.basis) (length l.index) atoms values) 8 _ rank.1 in
-      let stray = passed (strays s.atoms (width_of s.atoms) l.rows l.constants s.rows || strayed r) 10 _ nine.1 in
-      let clash = passed (clashes r) 11 _ stray.1 in
-      let name = passed (misnames s.rows l.basis s.rank) 12 _ clash.1 in
-      let over = passed (not s.refuted && over_rank s.rank (column_width s.rank) l.index s.atoms) 13 _ name.1 in
-      let counts = passed (unequal s r known) 14 _ over.1 in
-      let old = passed (missing r known) 15 _ counts.1 in
+  pub checked_fits : inspect_check s l r known atoms values ≡ Ok tt → Fits s l r known atoms values
+  unfolding inspect_check region_check
+  checked_fits e =
+      let full = passed (overfull_by s r known) _ _ e in
+      let rank = passed (ltb (min s.rows s.atoms) s.rank) _ _ full.1 in
+      let nine = passed (short s.atoms s.rows l.rows l.constants || lists_short s (length l.basis) (length l.index) atoms values) _ _ rank.1 in
+      let stray = passed (strays s.atoms (width_of s.atoms) l.rows l.constants s.rows || strayed r) _ _ nine.1 in
+      let clash = passed (clashes r) _ _ stray.1 in
+      let name = passed (misnames s.rows l.basis s.rank) _ _ clash.1 in
+      let over = passed (not s.refuted && over_rank s.rank (column_width s.rank) l.index s.atoms) _ _ name.1 in
+      let counts = passed (unequal s r known) _ _ over.1 in
+      let old = passed (missing r known) _ _ counts.1 in
       let limits = or_none (overfull s.atoms s.rows) _ full.0 in
       let system = or_none (ltb 512 s.atoms) (ltb 512 s.rows) limits.0 in
       let others = or_none (ltb 512 r.atoms) _ limits.1 in
@@ -81,12 +82,12 @@ module _ (s : System) (l : Filled) (r : Region) (known : Snapshot) (atoms values
         ancestor = old.0;
       }
 
-  pub fits_unfit : Fits s l r known atoms values → inspect_unfit s l r known atoms values ≡ 0
-  unfolding inspect_unfit region_unfit
-  fits_unfit f =
-      let full = passed (ltb 512 r.atoms) 9 _ f.region in
-      let stray = passed (strayed r) 10 _ full.1 in
-      let clash = passed (clashes r) 11 _ stray.1 in
+  pub fits_checked : Fits s l r known atoms values → inspect_check s l r known atoms values ≡ Ok tt
+  unfolding inspect_check region_check
+  fits_checked f =
+      let full = passed (ltb 512 r.atoms) _ _ f.region in
+      let stray = passed (strayed r) _ _ full.1 in
+      let clash = passed (clashes r) _ _ stray.1 in
       let few = f.lent.atoms in
       let old : (known.initialized && ltb 512 known.atoms) ≡ false =
       under_back _ _ (λ set. le-ltb 512 known.atoms (omega (arith, f.known_atoms set, f.same_atoms))) in

@@ -14,9 +14,9 @@ use Rattle.rows.specs.Decisions.{Decisions, agrees}
 use Rattle.rows.proofs.Odd.{odd_suc}
 use Rattle.echelon.specs.Forward.{low}
 use Rattle.region.specs.Masks.{is_held, is_open}
-use Rattle.inspect.specs.declared.Reading.{Reading}
-use Rattle.inspect.specs.declared.Reading.TheVariants.{Quiet, Forces, Wrong}
-use Rattle.inspect.specs.Consequences.{says_by, reading_of, Consequences, joins, consequences}
+use Rattle.std.specs.Prelude.{Some, None, Ok, Err}
+use Rattle.inspect.specs.declared.Fault.TheVariants.{Wrong}
+use Rattle.inspect.specs.Consequences.{Reading, says_by, reading_of, Consequences, joins, consequences}
 
 -- ---- atoms of a row among those of a set: none, or one
 
@@ -76,9 +76,9 @@ overlap_parts (some w ∷ p) (b ∷ r) (v ∷ x) h =
 
 -- an assignment does as a row says
 abbrev Heeds : Assignment → Reading → Type 0
-Heeds x Quiet = Unit {0}
-Heeds x (Forces atom value) = get_or x atom.0 false ≡ value
-Heeds x Wrong = ⊥
+Heeds x (Ok None) = Unit {0}
+Heeds x (Ok (Some f)) = get_or x f.atom.0 false ≡ f.value
+Heeds x (Err e) = ⊥
 
 parity_kept : (b c : Bool) → beq b c ≡ true → false ≡ xor c b
 unfolding xor
@@ -118,7 +118,7 @@ module _ (p : Decisions) (x : Assignment) (agree : agrees p x ≡ true) where
     heeds_by zero e =
         let same : held + overlap opened x ≡ held = omega (arith, shared_none r.atoms (map is_open p) x e) in
         let right : beq (odd held) r.constant ≡ true = ap (λ (k : ℕ). beq (odd k) r.constant) (sym same) ∙ by_parts in
-        chosen (Heeds x) (beq (odd held) r.constant) Quiet Wrong (λ e. tt) (λ e. true≢false (sym right ∙ e))
+        chosen (Heeds x) (beq (odd held) r.constant) (Ok None) (Err Wrong) (λ e. tt) (λ e. true≢false (sym right ∙ e))
     heeds_by (suc zero) e =
         one_more _ r.constant held (ap (λ (k : ℕ). beq (odd (held + k)) r.constant) (sym (shared_one r.atoms (map is_open p) x e)) ∙ by_parts)
     heeds_by (suc (suc k)) e = tt
@@ -139,9 +139,9 @@ pub record Followed (x : Assignment) (c : Consequences) : Type 0 where
   pub sound : c.sound ≡ true
 
 followed_more : (x : Assignment) (says : Reading) (c : Consequences) → Heeds x says → Followed x c → Followed x (joins says c)
-followed_more x Quiet c h f = f
-followed_more x (Forces atom value) c h f = record { forced = (h, f.forced); sound = f.sound }
-followed_more x Wrong c h f = absurd h
+followed_more x (Ok None) c h f = f
+followed_more x (Ok (Some entry)) c h f = record { forced = (h, f.forced); sound = f.sound }
+followed_more x (Err e) c h f = absurd h
 
 pub followed : (p : Decisions) (x : Assignment) → agrees p x ≡ true → (ts : List Bool) (rs : List Row) → meets_all rs x ≡ true
     → Followed x (consequences (map is_held p) (map is_open p) ts rs)

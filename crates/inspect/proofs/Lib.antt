@@ -1,6 +1,5 @@
 -- The laws behind the promises and the contracts of this crate.
 pub mod Fits
-pub mod Refusing
 pub mod Overlaps
 pub mod Readings
 pub mod Visits

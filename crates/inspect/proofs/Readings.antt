@@ -1,10 +1,11 @@
 -- What a fit row says, by what it has in common with the sets of held and of open atoms.
-use Prim.Native.Nat.{ℕ, zero, suc, ◌/◌, ◌<◌}
+use Prim.Native.Nat.{ℕ, zero, suc, ◌/◌, ◌≤◌, ◌<◌}
 use mathlib.Core.Path.{◌≡◌, refl, sym, ap, ap₂, ◌∙◌}
 use mathlib.Core.List.{List, ◌∷◌, zip_with}
-use mathlib.Core.Bool.{Bool, cond, not, xor, ◌&&◌, beq}
+use mathlib.Core.Bool.{Bool, true, false, cond, not, xor, ◌&&◌, beq}
 use native.Mathlib.Nat.{lt_of_le_of_lt}
 use native.Mathlib.Omega.{arith}
+use borrow.Author.Tests.{eqb-true, eqb-false}
 use lib.ListN.{get_or}
 use lib.Bits.{bit_and, and_mod, and_shr, and_le_l}
 use lib.Count.{ones}
@@ -15,11 +16,12 @@ use Rattle.rows.specs.Row.{overlap}
 use Rattle.rows.specs.Flat.{width_of, row, atoms_of, row_at}
 use Rattle.rows.proofs.Digits.{atoms_overlap}
 use Rattle.echelon.specs.Forward as forward
-use Rattle.parity.proofs.Single.{single_some, low_atoms}
-use Rattle.inspect.specs.declared.Reading.{Reading}
-use Rattle.inspect.specs.declared.Reading.TheVariants.{Quiet, Forces, Wrong}
-use Rattle.inspect.specs.Consequences.{says_by, reading_of}
-use Rattle.inspect.specs.Steps.{Legible}
+use Rattle.std.proofs.lemmas.Nat.{zero_from_ones}
+use Rattle.parity.proofs.Single.{low_atoms}
+use Rattle.std.specs.Prelude.{Some, None, Ok, Err}
+use Rattle.inspect.specs.declared.Fault.TheVariants.{Wrong}
+use Rattle.inspect.specs.Consequences.{Reading, says_by, reading_of}
+use Rattle.parity.specs.Named.{Legible}
 
 pub atoms_and : (n a b : ℕ) → zip_with ◌&&◌ (atoms_of n a) (atoms_of n b) ≡ atoms_of n (bit_and a b)
 unfolding atoms_of zip_with
@@ -29,10 +31,22 @@ atoms_and (suc n) a b =
     (sym (ap (λ (d : ℕ). eqb d 1) (and_mod a b 1) ∙ two (λ p q. eqb (bit_and p q) 1 ≡ (eqb p 1 && eqb q 1)) refl refl refl refl a b))
     (atoms_and n (a / 2) (b / 2) ∙ ap (atoms_of n) (sym (and_shr a b 1)))
 
-many : (k : ℕ) (p c : Bool) (a : ℕ) → 1 < k → Quiet ≡ says_by k p c a
+many : (k : ℕ) (p c : Bool) (a : ℕ) → 1 < k → Ok None ≡ says_by k p c a
 many zero p c a h = let z : ⊥ = omega arith in absurd z
 many (suc zero) p c a h = let z : ⊥ = omega arith in absurd z
 many (suc (suc k)) p c a h = refl
+
+no_ones : ones 0 ≡ 0
+unfolding ones
+no_ones = refl
+
+-- a set that is not empty has an atom
+single_most : (x : ℕ) → 0 < x → 1 ≤ ones x
+single_most x some = go (ones x) refl
+  where
+    go : (k : ℕ) → ones x ≡ k → 1 ≤ ones x
+    go zero e = let none = zero_from_ones x e in let z : ⊥ = omega arith in absurd z
+    go (suc k) e = omega arith
 
 module _ (n : ℕ) (ws cs : List ℕ) (s held free : ℕ) (fit : Legible n ws cs s) where
   abbrev own : ℕ
@@ -49,22 +63,47 @@ module _ (n : ℕ) (ws cs : List ℕ) (s held free : ℕ) (fit : Legible n ws cs
       (sym (atoms_overlap n own free fit.below)) (sym (atoms_and n own free))
 
   -- with several open atoms
-  pub says_quiet : 1 < ones (bit_and own free) → Quiet ≡ says
+  pub says_quiet : 1 < ones (bit_and own free) → Ok None ≡ says
   says_quiet h = many (ones (bit_and own free)) _ _ _ h ∙ said
 
   module _ (p : Bool) (parity : p ≡ odd (ones (bit_and own held))) where
     -- with one
-    pub says_forces : ones (bit_and own free) ≡ 1 → (a : ℕ) → a ≡ low (bit_and own free)
-        → Forces (record { 0 = a }) (not (beq (eqb (get_or cs s 0) 1) p)) ≡ says
+    says_forces : ones (bit_and own free) ≤ 1 → 0 < bit_and own free
+        → Ok (Some (record { atom = record { 0 = low (bit_and own free) }; value = not (beq (eqb (get_or cs s 0) 1) p) })) ≡ says
     unfolding xor
-    says_forces one a is =
-        let some = single_some (bit_and own free) one in
+    says_forces few some =
+        let one : ones (bit_and own free) ≡ 1 = omega (arith, single_most (bit_and own free) some) in
         let below = lt_of_le_of_lt (and_le_l own free) fit.below in
-        ap₂ (λ (b : ℕ) (q : Bool). Forces (record { 0 = b }) (not (beq (eqb (get_or cs s 0) 1) q))) (is ∙ sym (low_atoms n (bit_and own free) some below)) parity
+        ap₂ (λ (b : ℕ) (q : Bool). let r : Reading = Ok (Some (record { atom = record { 0 = b }; value = not (beq (eqb (get_or cs s 0) 1) q) })) in r)
+        (sym (low_atoms n (bit_and own free) some below)) parity
         ∙ ap (λ (k : ℕ). says_by k (odd (ones (bit_and own held))) (eqb (get_or cs s 0) 1) (forward.low (atoms_of n (bit_and own free)))) (sym one) ∙ said
 
     -- with none
-    pub says_whether : ones (bit_and own free) ≡ 0 → cond (beq p (eqb (get_or cs s 0) 1)) Quiet Wrong ≡ says
+    says_whether : bit_and own free ≡ 0 → cond (beq p (eqb (get_or cs s 0) 1)) (Ok None) (Err Wrong) ≡ says
     says_whether none =
-        ap (λ (q : Bool). cond (beq q (eqb (get_or cs s 0) 1)) Quiet Wrong) parity
-        ∙ ap (λ (k : ℕ). says_by k (odd (ones (bit_and own held))) (eqb (get_or cs s 0) 1) (forward.low (atoms_of n (bit_and own free)))) (sym none) ∙ said
+        let zero-ones : ones (bit_and own free) ≡ 0 = ap ones none ∙ no_ones in
+        ap (λ (q : Bool). let r : Reading = cond (beq q (eqb (get_or cs s 0) 1)) (Ok None) (Err Wrong) in r) parity
+        ∙ ap (λ (k : ℕ). says_by k (odd (ones (bit_and own held))) (eqb (get_or cs s 0) 1) (forward.low (atoms_of n (bit_and own free)))) (sym zero-ones) ∙ said
+
+    -- by the lowest open atom, where there is at most one
+    pub said_some : ones (bit_and own free) ≤ 1 → (a : ℕ) → Some a ≡ cond (eqb (bit_and own free) 0) None (Some (low (bit_and own free)))
+        → Ok (Some (record { atom = record { 0 = a }; value = not (beq (eqb (get_or cs s 0) 1) p) })) ≡ says
+    said_some few a = go (eqb (bit_and own free) 0) refl
+      where
+        go : (t : Bool) → eqb (bit_and own free) 0 ≡ t → Some a ≡ cond t None (Some (low (bit_and own free)))
+            → Ok (Some (record { atom = record { 0 = a }; value = not (beq (eqb (get_or cs s 0) 1) p) })) ≡ says
+        go true e told = cc
+        go false e told =
+            let is : a ≡ low (bit_and own free) = cc in
+            let unempty = eqb-false (bit_and own free) 0 e in
+            ap (λ (b : ℕ). let r : Reading = Ok (Some (record { atom = record { 0 = b }; value = not (beq (eqb (get_or cs s 0) 1) p) })) in r) is
+            ∙ says_forces few (omega arith)
+
+    pub said_none : None ≡ cond (eqb (bit_and own free) 0) None (Some (low (bit_and own free)))
+        → cond (beq p (eqb (get_or cs s 0) 1)) (Ok None) (Err Wrong) ≡ says
+    said_none = go (eqb (bit_and own free) 0) refl
+      where
+        go : (t : Bool) → eqb (bit_and own free) 0 ≡ t → None ≡ cond t None (Some (low (bit_and own free)))
+            → cond (beq p (eqb (get_or cs s 0) 1)) (Ok None) (Err Wrong) ≡ says
+        go true e told = says_whether (eqb-true (bit_and own free) 0 e)
+        go false e told = cc

@@ -12,36 +12,31 @@ use Rattle.words.specs.Set.{set_of, subset}
 use Rattle.words.proofs.Meaning.{subset_holds}
 use Rattle.rows.specs.Decisions.{Decisions}
 use Rattle.rows.specs.declared.Atom.{Atom}
-use Rattle.fit.specs.Refusal.{or_refused}
-use Rattle.fit.specs.Rows.{rows_unfit}
+use Rattle.std.specs.Prelude.{Result, Ok, Err}
+use Rattle.refusal.specs.Refusal.{checked, answered, given_or, number_in}
+use Rattle.refusal.specs.declared.Refusal.{Refusal}
+use Rattle.refusal.specs.declared.Refusal.TheVariants.{Overfull}
 use Rattle.fit.proofs.Fitting.{Fit, joined_fit, joined_none}
-use Rattle.parity.specs.Prepare.{Lent, prepare_of}
+use Rattle.parity.specs.Prepare.{Lent, prepare_check, prepared}
 use Rattle.parity.specs.Promises.{Fits}
 use Rattle.parity.specs.declared.System.{System}
 use Rattle.parity.specs.declared.Prepared.{Prepared}
 use Rattle.parity.proofs.Refit.{prepare_fits}
 use Rattle.region.specs.Masks.{decisions, region_of, is_held, is_cut}
-use Rattle.region.specs.Calls.{answer_number, region_unfit, decided, undecided_of, hold_of, cut_of, decide_of}
+use Rattle.region.specs.Calls.{region_check, decided, undecided_of, hold_of, cut_of, decide_of}
 use Rattle.region.specs.Promises.{deciding}
 use Rattle.region.specs.declared.Region.{Region}
-use Rattle.region.specs.declared.Decided.{Decided}
-use Rattle.region.specs.declared.NewRegion.{NewRegion}
 use Rattle.region.specs.declared.Answer.{Answer}
-use Rattle.region.specs.declared.Answer.TheVariants.{Same, Against}
 use Rattle.region.proofs.Masked.{decisions_back, region_fits, held_has, cut_has, decide_known}
 use Rattle.region.proofs.Standing.{Gains, decide_later}
 use Rattle.snapshot.specs.Knowledge.{fresh, published, missing}
 use Rattle.snapshot.specs.declared.Snapshot.{Snapshot}
-use Rattle.inspect.specs.Consequences.{Consequences}
 use Rattle.inspect.specs.Batch.{begun, applied}
-use Rattle.inspect.specs.Inspect.{Filled, Outcome, step_number, told_of, outcome, answer_of, found, concluded, inspected, inspect_unfit, inspect_of}
+use Rattle.inspect.specs.Inspect.{Filled, region_in, known_in, found, inspected, inspect_check, inspect_of}
 use Rattle.inspect.specs.declared.Inspected.{Inspected}
-use Rattle.inspect.specs.declared.Step.{Step}
-use Rattle.inspect.specs.declared.Step.TheVariants.{Unchanged, Changed, Refused}
 use Rattle.inspect.specs.Run.{Call, hold, cut, inspect, State, begins, step, after}
 use Rattle.inspect.specs.Promises.{filled_by, RegionsFit, KnowledgeAncestor, NeverRefused}
-use Rattle.inspect.proofs.Fits.{fits_unfit}
-use Rattle.inspect.proofs.Following.{chosen}
+use Rattle.inspect.proofs.Fits.{fits_checked}
 use Rattle.inspect.proofs.Batches.{gains}
 use Rattle.inspect.proofs.Inspections.{grown, grown_length, leaves}
 
@@ -94,13 +89,13 @@ pub record Reached (p : Decisions) (r : Region) (known : Snapshot) : Type 0 wher
 stays : (p : Decisions) (known : Snapshot) → Ancestor p known → Reached p (region_of p) known
 stays p known k = record { now = p; long = refl; gains = λ a v h. h; is = refl; knows = k }
 
-decide_reached : (p : Decisions) → length p ≤ 512 → (known : Snapshot) → Ancestor p known → (v : Bool) (a : Atom) → Reached p (deciding v (region_of p) a).region known
+decide_reached : (p : Decisions) → length p ≤ 512 → (known : Snapshot) → Ancestor p known → (v : Bool) (a : Atom) → Reached p (deciding v (region_of p) a).1 known
 decide_reached p few known k v a =
     let l = decide_later v p few a in
     record { now = l.now; long = l.long; gains = l.gains; is = l.is; knows = ancestor_gains p l.now l.long l.gains known k }
 
 inspect_reached : (p : Decisions) → length p ≤ 512 → (known : Snapshot) → Ancestor p known → (s : System) (l : Filled) (atoms values : List ℕ)
-    → let o = (inspect_of s l (region_of p) known atoms values).result in Reached p o.region o.known
+    → let o = (inspect_of s l (region_of p) known atoms values).result in Reached p (region_in (region_of p) o) (known_in known o)
 inspect_reached p few known k s l atoms values =
     let long = grown_length s l (region_of p) known ∙ region_atoms p in
     let more : Gains p (grown s l (region_of p) known) = λ a v e.
@@ -153,7 +148,7 @@ unfolding undecided_of
 starts n = go (ltb 512 n) refl
   where
     at : Bool → Region
-    at t = (cond {A = NewRegion} t (record { number = 10; region = region_of [] }) (record { number = 0; region = region_of (replicate n none) })).region
+    at t = given_or (answered (checked ((Overfull, t) ∷ [])) (region_of (replicate n none))) (region_of [])
 
     go : (t : Bool) → ltb 512 n ≡ t → Start n
     go true e = record {
@@ -184,7 +179,7 @@ known_count p known (earlier q long gains) e = long
 pub regions_fit : RegionsFit
 regions_fit n cs =
     let then = reached n cs in (
-      ap region_unfit then.is ∙ region_fits then.now (reached_few n cs),
+      ap region_check then.is ∙ region_fits then.now (reached_few n cs),
       λ e. known_count then.now (after (begins n) cs).known then.knows e ∙ sym (ap (λ (r : Region). r.atoms) then.is),
     )
 
@@ -199,35 +194,14 @@ knowledge_ancestor n cs ds =
 
 -- ---- what is not refused
 
-decided_taken : (p : Decisions) (a : ℕ) (v : Bool) (d : Option Bool) → answer_number (decided p a v d).answer ≡ 0
-decided_taken p a v none = refl
-decided_taken p a v (some b) = chosen (λ (o : Answer). answer_number o ≡ 0) (beq b v) Same Against (λ t. refl) (λ t. refl)
+decide_taken : (v : Bool) (p : Decisions) → length p ≤ 512 → (a : Atom) → a.0 < length p → number_in (decide_of v (region_of p) a).0 ≡ 0
+decide_taken v p few a lt = ap (λ (o : Result Answer Refusal × Region). number_in o.0) (decide_known v p few a lt)
 
-decide_taken : (v : Bool) (p : Decisions) → length p ≤ 512 → (a : Atom) → a.0 < length p → answer_number (decide_of v (region_of p) a).answer ≡ 0
-decide_taken v p few a lt =
-    ap (λ (o : Decided). answer_number o.answer) (decide_known v p few a lt) ∙ decided_taken p a.0 v (get_or p a.0 none)
-
-answer_taken : (x y : ℕ) (against : Bool) → step_number (answer_of x y against) ≡ 0
-answer_taken x y true = refl
-answer_taken x y false = chosen (λ (a : Step). step_number a ≡ 0) (eqb (x + y) 0) Unchanged Changed (λ t. refl) (λ t. refl)
-
--- an inspection that is not refused has a number of 0
-module _ (s : System) (l : Filled) (r : Region) (known : Snapshot) (atoms values : List ℕ) where
-  concluded_taken : (c : Consequences) → step_number (concluded c r known).answer ≡ 0
-  concluded_taken c =
-      let b = applied (begun (decisions r)) c.forced in
-      chosen (λ (i : Inspected). step_number i.answer ≡ 0) c.sound _ _ (λ t. answer_taken b.held b.cut b.against) (λ t. refl)
-
-  pub inspect_taken : inspect_unfit s l r known (length atoms) (length values) ≡ 0 → step_number (inspect_of s l r known atoms values).result.answer ≡ 0
-  unfolding inspect_of
-  inspect_taken = go (inspect_unfit s l r known (length atoms) (length values))
-    where
-      go : (number : ℕ) → number ≡ 0
-          → step_number (or_refused number (inspected s l r known atoms values) (λ number. outcome (told_of (Refused number) 0 0 0 r known) atoms values)).result.answer ≡ 0
-      go zero e =
-          chosen (λ (o : Outcome). step_number o.result.answer ≡ 0) s.refuted _ _ (λ t. refl) (λ t.
-          chosen (λ (o : Outcome). step_number o.result.answer ≡ 0) (eqb s.rank 0) _ _ (λ t. refl) (λ t. concluded_taken (found s l r known)))
-      go (suc number) e = let z : ⊥ = omega arith in absurd z
+-- an inspection whose checks pass is not refused
+pub inspect_taken : (s : System) (l : Filled) (r : Region) (known : Snapshot) (atoms values : List ℕ)
+    → inspect_check s l r known (length atoms) (length values) ≡ Ok tt → number_in (inspect_of s l r known atoms values).result ≡ 0
+unfolding inspect_of
+inspect_taken s l r known atoms values e = ap (λ check. number_in (answered check (inspected s l r known atoms values).result)) e
 
 ancestor_atoms : (p : Decisions) (known : Snapshot) → Ancestor p known → known.initialized ≡ true → known.atoms ≡ length p
 unfolding region_of
@@ -238,15 +212,15 @@ pub lent_fit : (n m : ℕ) (q : Prepared × Lent) → Fits n m q → Fit n m q.1
 lent_fit n m q f =
     let ws = q.1.rows in
     let cs = q.1.constants in
-    (joined_fit n m ws cs false (sym (joined_none n m ws cs false (rows_unfit n m ws cs) refl refl) ∙ f.fit)).0
+    (joined_fit n m ws cs false (sym (joined_none n m ws cs) ∙ f.fit)).0
 
 prepared_fit : (n m : ℕ) (q : Prepared × Lent) → Fits n m q → (p : Decisions) → length p ≡ n → (known : Snapshot) → Ancestor p known
     → (atoms values : ℕ) → q.0.system.rank ≤ atoms → q.0.system.rank ≤ values
-    → inspect_unfit q.0.system (filled_by q.1) (region_of p) known atoms values ≡ 0
+    → inspect_check q.0.system (filled_by q.1) (region_of p) known atoms values ≡ Ok tt
 prepared_fit n m q f p long known k atoms values room room' =
     let fit = lent_fit n m q f in
     let few : length p ≤ 512 = omega (arith, fit.atoms) in
-    fits_unfit q.0.system (filled_by q.1) (region_of p) known atoms values (record {
+    fits_checked q.0.system (filled_by q.1) (region_of p) known atoms values (record {
       lent = rw (f.atoms, f.rows) fit;
       ranked = rw (f.atoms, f.rows) f.ranked;
       entries = rw (f.atoms, f.rows) f.entries;
@@ -263,18 +237,18 @@ prepared_fit n m q f p long known k atoms values room room' =
 
 pub never_refused : NeverRefused
 unfolding hold_of cut_of
-never_refused n m l cs number =
-    let p = prepare_of n m l in
-    let fits = prepare_fits n m l number in
+never_refused n m l cs fit =
+    let p = prepared n m l in
+    let fits = prepare_fits n m l fit in
     let then = reached n cs in
     let long : length then.now ≡ n = then.long ∙ (starts n).long (lent_fit n m p fits).atoms in
     let known = (after (begins n) cs).known in (
       (λ a lt.
-          let taken : (v : Bool) → answer_number (decide_of v (after (begins n) cs).region a).answer ≡ 0 =
-          λ v. ap (λ (r : Region). answer_number (decide_of v r a).answer) then.is ∙ decide_taken v then.now (reached_few n cs) a (omega arith) in
+          let taken : (v : Bool) → number_in (decide_of v (after (begins n) cs).region a).0 ≡ 0 =
+          λ v. ap (λ (r : Region). number_in (decide_of v r a).0) then.is ∙ decide_taken v then.now (reached_few n cs) a (omega arith) in
           (taken true, taken false)),
       (λ atoms values room room'.
           inspect_taken p.0.system (filled_by p.1) (after (begins n) cs).region known atoms values
-          (ap (λ (r : Region). inspect_unfit p.0.system (filled_by p.1) r known (length atoms) (length values)) then.is
+          (ap (λ (r : Region). inspect_check p.0.system (filled_by p.1) r known (length atoms) (length values)) then.is
           ∙ prepared_fit n m p fits then.now long known then.knows (length atoms) (length values) room room')),
     )

@@ -1,20 +1,25 @@
 -- What the touched rows say against one region: "no open atom and wrong parity, Refuted, unpublished; one open atom, it and its value join
 -- the forced list". Rows stand in basis order, and place a of a list of Bools is atom a.
-use Rattle.std.specs.Prelude.{ℕ, zero, suc, Bool, true, false, cond, ◌&&◌}
+use Rattle.std.specs.Prelude.{ℕ, zero, suc, Bool, true, false, cond, ◌&&◌, Option, Some, None, Result, Ok, Err}
 use mathlib.Core.List.{List, [], ◌∷◌, zip_with}
 use Rattle.std.specs.Bool.{xor, beq}
 use Rattle.words.specs.Set.{odd}
 use Rattle.rows.specs.Row.{Row, overlap}
 use Rattle.echelon.specs.Forward.{low}
-use Rattle.inspect.specs.declared.Reading.{Reading}
-use Rattle.inspect.specs.declared.Reading.TheVariants.{Quiet, Forces, Wrong}
+use Rattle.inspect.specs.declared.Forced.{Forced}
+use Rattle.inspect.specs.declared.Fault.{Fault}
+use Rattle.inspect.specs.declared.Fault.TheVariants.{Wrong}
+
+-- What a row says: an atom with its value, nothing, or that its parity is wrong.
+abbrev pub Reading : Type 0
+Reading = Result (Option Forced) Fault
 
 -- A row by the number of its open atoms, the parity of its held ones, its constant, and its lowest open atom. A forced atom's value is the
 -- one that the row is met with.
 abbrev pub says_by : ℕ → Bool → Bool → ℕ → Reading
-says_by zero parity constant atom = cond (beq parity constant) Quiet Wrong
-says_by (suc zero) parity constant atom = Forces (record { 0 = atom }) (xor constant parity)
-says_by (suc (suc k)) parity constant atom = Quiet
+says_by zero parity constant atom = cond (beq parity constant) (Ok None) (Err Wrong)
+says_by (suc zero) parity constant atom = Ok (Some (record { atom = record { 0 = atom }; value = xor constant parity }))
+says_by (suc (suc k)) parity constant atom = Ok None
 
 -- What a row says where these atoms are held and those open.
 unfoldable pub reading_of : List Bool → List Bool → Row → Reading
@@ -28,9 +33,9 @@ pub record Consequences : Type 0 where
 
 -- Rows after a wrong one are not read.
 abbrev pub joins : Reading → Consequences → Consequences
-joins Quiet rest = rest
-joins (Forces atom value) rest = record { forced = (atom.0, value) ∷ rest.forced; sound = rest.sound }
-joins Wrong rest = record { forced = []; sound = false }
+joins (Ok None) rest = rest
+joins (Ok (Some f)) rest = record { forced = (f.atom.0, f.value) ∷ rest.forced; sound = rest.sound }
+joins (Err e) rest = record { forced = []; sound = false }
 
 -- "Touched rows in ordinal order"
 unfoldable pub consequences : List Bool → List Bool → List Bool → List Row → Consequences

@@ -1,7 +1,9 @@
 -- What `inspect` answers and leaves in the two lists lent to it, for fit and unfit input.
-use Rattle.std.specs.Prelude.{ℕ, ◌+◌, ◌*◌, min, List, [], ◌∷◌, ◌++◌, map, Bool, true, false, cond, not, ◌&&◌, ◌||◌, length, take, drop, ltb, eqb}
+use Rattle.std.specs.Prelude.{ℕ, ◌+◌, ◌*◌, min, List, [], ◌∷◌, ◌++◌, map, Bool, true, false, cond, not, ◌&&◌, ◌||◌, length, take, drop, ltb, eqb, Result, Ok, Err}
 use Rattle.rows.specs.Flat.{width_of}
-use Rattle.fit.specs.Refusal.{refusal, or_refused}
+use Rattle.refusal.specs.Refusal.{checked, answered, left}
+use Rattle.refusal.specs.declared.Refusal.{Refusal}
+use Rattle.refusal.specs.declared.Refusal.TheVariants.{Short, Overfull, Stray, Clash, Basis, Index, Unequal, Missing}
 use Rattle.fit.specs.Rows.{short, strays, misnames}
 use Rattle.index.specs.Index.{column_width}
 use Rattle.index.specs.Column.{over_rank}
@@ -17,20 +19,26 @@ use Rattle.inspect.specs.Consequences.{Consequences, consequences}
 use Rattle.inspect.specs.Batch.{Batch, begun, applied}
 use Rattle.inspect.specs.declared.Inspected.{Inspected}
 use Rattle.inspect.specs.declared.Step.{Step}
-use Rattle.inspect.specs.declared.Step.TheVariants.{Unchanged, Changed, Refuted, Refused}
-
--- Document 01's number of each answer, 0 but of a refusal, and whether it is Refuted.
-abbrev pub meaning : Step → ℕ × Bool
-meaning Unchanged = (0, false)
-meaning Changed = (0, false)
-meaning Refuted = (0, true)
-meaning (Refused number) = (number, false)
-
-abbrev pub step_number : Step → ℕ
-step_number a = (meaning a).0
+use Rattle.inspect.specs.declared.Step.TheVariants.{Unchanged, Changed, Refuted}
 
 abbrev pub is_refuted : Step → Bool
-is_refuted a = (meaning a).1
+is_refuted Unchanged = false
+is_refuted Changed = false
+is_refuted Refuted = true
+
+-- Whether an inspection refutes; one that is refused does not.
+abbrev pub refutes : Result Inspected Refusal → Bool
+refutes (Ok inspected) = is_refuted inspected.answer
+refutes (Err refusal) = false
+
+-- Region and knowledge after an inspection: where it is refused, as passed.
+abbrev pub region_in : Region → Result Inspected Refusal → Region
+region_in r (Ok inspected) = inspected.region
+region_in r (Err refusal) = r
+
+abbrev pub known_in : Snapshot → Result Inspected Refusal → Snapshot
+known_in known (Ok inspected) = inspected.known
+known_in known (Err refusal) = known
 
 -- The memory that preparation filled and that is lent to be read.
 pub record Filled : Type 0 where
@@ -50,18 +58,18 @@ lists_short s basis index atoms values =
     || (ltb index (s.atoms * column_width s.rank) || (ltb atoms s.rank || ltb values s.rank))
 
 -- The checks in their order: 10, 13 for the rank, 9, 11, 12, 13, 14 ("not checked where the system is refuted"), 15, 16.
-unfoldable pub inspect_unfit : System → Filled → Region → Snapshot → ℕ → ℕ → ℕ
-inspect_unfit s l r known atoms values =
-    refusal (
-    (10, overfull_by s r known) ∷
-    (13, ltb (min s.rows s.atoms) s.rank) ∷
-    (9, short s.atoms s.rows l.rows l.constants || lists_short s (length l.basis) (length l.index) atoms values) ∷
-    (11, strays s.atoms (width_of s.atoms) l.rows l.constants s.rows || strayed r) ∷
-    (12, clashes r) ∷
-    (13, misnames s.rows l.basis s.rank) ∷
-    (14, not s.refuted && over_rank s.rank (column_width s.rank) l.index s.atoms) ∷
-    (15, unequal s r known) ∷
-    (16, missing r known) ∷
+unfoldable pub inspect_check : System → Filled → Region → Snapshot → ℕ → ℕ → Result Unit Refusal
+inspect_check s l r known atoms values =
+    checked (
+    (Overfull, overfull_by s r known) ∷
+    (Basis, ltb (min s.rows s.atoms) s.rank) ∷
+    (Short, short s.atoms s.rows l.rows l.constants || lists_short s (length l.basis) (length l.index) atoms values) ∷
+    (Stray, strays s.atoms (width_of s.atoms) l.rows l.constants s.rows || strayed r) ∷
+    (Clash, clashes r) ∷
+    (Basis, misnames s.rows l.basis s.rank) ∷
+    (Index, not s.refuted && over_rank s.rank (column_width s.rank) l.index s.atoms) ∷
+    (Unequal, unequal s r known) ∷
+    (Missing, missing r known) ∷
     [])
 
 -- A result by its fields: answer, held, cut, forced, region, knowledge.
@@ -70,12 +78,12 @@ told_of answer held cut forced r known =
     record { answer = answer; held = held; cut = cut; forced = forced; region = r; known = known }
 
 -- The result, and what the lent lists of forced atoms and values hold.
-pub record Outcome : Type 0 where
-  pub result : Inspected
+pub record Outcome (R : Type 0) : Type 0 where
+  pub result : R
   pub atoms : List ℕ
   pub values : List ℕ
 
-abbrev pub outcome : Inspected → List ℕ → List ℕ → Outcome
+abbrev pub outcome : {R : Type 0} → R → List ℕ → List ℕ → Outcome R
 outcome result atoms values = record { result = result; atoms = atoms; values = values }
 
 -- "its count is in the result, and entries past it are untouched"
@@ -107,15 +115,16 @@ found s l r known =
     (basis_of s.atoms l.rows l.constants (take s.rank l.basis))
 
 -- "refuted system, Refuted; empty basis, Unchanged; neither publishes"
-abbrev pub inspected : System → Filled → Region → Snapshot → List ℕ → List ℕ → Outcome
+abbrev pub inspected : System → Filled → Region → Snapshot → List ℕ → List ℕ → Outcome Inspected
 inspected s l r known atoms values =
     let c = found s l r known in
     cond s.refuted (outcome (told_of Refuted 0 0 0 r known) atoms values)
     (cond (eqb s.rank 0) (outcome (told_of Unchanged 0 0 0 r known) atoms values)
     (outcome (concluded c r known) (atoms_from c.forced atoms) (values_from c.forced values)))
 
--- A refused call returns "its number, 0 in every other field, and the region as passed", with knowledge and lists as they were.
-unfoldable pub inspect_of : System → Filled → Region → Snapshot → List ℕ → List ℕ → Outcome
+-- A refused call leaves the lists as they were.
+unfoldable pub inspect_of : System → Filled → Region → Snapshot → List ℕ → List ℕ → Outcome (Result Inspected Refusal)
 inspect_of s l r known atoms values =
-    or_refused (inspect_unfit s l r known (length atoms) (length values)) (inspected s l r known atoms values)
-    (λ number. outcome (told_of (Refused number) 0 0 0 r known) atoms values)
+    let check = inspect_check s l r known (length atoms) (length values) in
+    let o = inspected s l r known atoms values in
+    outcome (answered check o.result) (left check o.atoms atoms) (left check o.values values)

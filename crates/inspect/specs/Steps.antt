@@ -1,60 +1,60 @@
 -- What the private functions of `inspect` ask and leave, for their contracts alone: no reader has to believe it, since `inspect` asks
 -- nothing.
-use Rattle.std.specs.Prelude.{ℕ, ◌+◌, ◌*◌, ◌^◌, ◌≤◌, ◌<◌, ◌≡◌, Bool, true, false, cond, length, get_or, set, take, eqb}
-use mathlib.Core.List.{List, zip_with}
+use Rattle.std.specs.Prelude.{ℕ, ◌+◌, ◌≤◌, ◌<◌, ◌≡◌, Bool, false, cond, length, get_or, set, take, eqb, Option, Some, None, Result, Ok, Err}
+use mathlib.Core.List.{List, map, zip_with}
 use Rattle.words.specs.Set.{set_of}
-use Rattle.rows.specs.Flat.{width_of, row}
-use Rattle.region.specs.Masks.{region_of}
-use Rattle.region.specs.Calls.{region_unfit}
+use Rattle.rows.specs.Row.{Row}
+use Rattle.rows.specs.Flat.{width_of, atoms_of, row_at}
+use Rattle.parity.specs.Basis.{basis_of}
+use Rattle.rows.specs.Decisions.{Decisions}
+use Rattle.region.specs.Masks.{is_held, is_open, region_of}
+use Rattle.region.specs.Calls.{region_check}
 use Rattle.region.specs.declared.Region.{Region}
-use Rattle.inspect.specs.declared.Reading.{Reading}
-use Rattle.inspect.specs.declared.Reading.TheVariants.{Quiet, Forces, Wrong}
+use Rattle.inspect.specs.declared.Forced.{Forced}
+use Rattle.inspect.specs.declared.Contradiction.{Contradiction}
+use Rattle.inspect.specs.declared.Masks.{Masks}
+use Rattle.parity.specs.declared.basis.Basis.{Basis}
 use Rattle.inspect.specs.declared.Applied.{Applied}
 use Rattle.inspect.specs.declared.apply.Tally.{Tally}
-use Rattle.inspect.specs.declared.Collected.{Collected}
-use Rattle.inspect.specs.Consequences.{Consequences}
+use Rattle.inspect.specs.Consequences.{Reading, reading_of, Consequences}
 use Rattle.inspect.specs.Batch.{Batch, next}
 use Rattle.inspect.specs.Inspect.{atoms_from, values_from}
 
--- Row s lies within the lent memory and is fit.
-pub record Legible (n : ℕ) (ws cs : List ℕ) (s : ℕ) : Type 0 where
-  pub atoms : n ≤ 512
-  pub words : s * width_of n + width_of n ≤ length ws
-  pub constants : s < length cs
-  pub below : set_of (row (width_of n) ws s) < 2 ^ n
-  pub constant : get_or cs s 0 < 2
-
--- Each entry of a basis below the rank names such a row.
-pub record Named (n rank : ℕ) (ws cs ps : List ℕ) : Type 0 where
-  pub ranked : rank ≤ 512
-  pub entries : rank ≤ length ps
-  pub legible : (j : ℕ) → j < rank → Legible n ws cs (get_or ps j 0)
-
-abbrev pub is_wrong : Reading → Bool
-is_wrong Quiet = false
-is_wrong (Forces atom value) = false
-is_wrong Wrong = true
-
 -- How long the forced list is after a row, and its atoms and values with what the row forces as entry `at`.
-abbrev pub count_noted : Reading → ℕ → ℕ
-count_noted Quiet at = at
-count_noted (Forces atom value) at = at + 1
-count_noted Wrong at = at
+abbrev pub count_noted : Option Forced → ℕ → ℕ
+count_noted None at = at
+count_noted (Some f) at = at + 1
 
-abbrev pub atoms_noted : Reading → ℕ → List ℕ → List ℕ
-atoms_noted Quiet at atoms = atoms
-atoms_noted (Forces atom value) at atoms = set atoms at atom.0
-atoms_noted Wrong at atoms = atoms
+abbrev pub atoms_noted : Option Forced → ℕ → List ℕ → List ℕ
+atoms_noted None at atoms = atoms
+atoms_noted (Some f) at atoms = set atoms at f.atom.0
 
-abbrev pub values_noted : Reading → ℕ → List ℕ → List ℕ
-values_noted Quiet at values = values
-values_noted (Forces atom value) at values = set values at (cond value 1 0)
-values_noted Wrong at values = values
+abbrev pub values_noted : Option Forced → ℕ → List ℕ → List ℕ
+values_noted None at values = values
+values_noted (Some f) at values = set values at (cond f.value 1 0)
+
+-- The masks of the atoms that decisions hold, and leave open.
+pub record Masked (n : ℕ) (p : Decisions) (held free : List ℕ) : Type 0 where
+  pub held_are : map is_held p ≡ atoms_of n (set_of held)
+  pub open_are : map is_open p ≡ atoms_of n (set_of free)
+
+-- The row that a place of the basis names, read.
+abbrev pub reading_at : Basis → Masks → ℕ → Reading
+reading_at b m j =
+    reading_of (atoms_of b.atoms (set_of m.held)) (atoms_of b.atoms (set_of m.free))
+    (row_at b.atoms (width_of b.atoms) b.rows.now b.constants.now (get_or b.entries.now j 0))
+
+-- The rows that the basis names.
+abbrev pub rows_of : Basis → List Row
+rows_of b = basis_of b.atoms b.rows.now b.constants.now (take b.rank b.entries.now)
+
+-- What rows touched say, collected.
+abbrev pub collected_of : Consequences → Result ℕ Contradiction
+collected_of c = cond c.sound (Ok (length c.forced)) (Err (record { forced = length c.forced }))
 
 -- The consequences, told and written into the lent lists.
-pub record Gathered (c : Consequences) (r : Collected) (atoms values atoms' values' : List ℕ) : Type 0 where
-  pub number : r.forced ≡ length c.forced
-  pub sound : r.sound ≡ c.sound
+pub record Gathered (c : Consequences) (r : Result ℕ Contradiction) (atoms values atoms' values' : List ℕ) : Type 0 where
+  pub is : r ≡ collected_of c
   pub atoms_are : atoms' ≡ atoms_from c.forced atoms
   pub values_are : values' ≡ values_from c.forced values
 
@@ -64,7 +64,7 @@ forced_in atoms values count = zip_with (λ (a v : ℕ). (a, eqb v 1)) (take cou
 
 -- A forced list that can be applied to a region: its entries lie within the lent lists, and its atoms are the region's.
 pub record Applicable (r : Region) (forced : ℕ) (atoms values : List ℕ) : Type 0 where
-  pub fit : region_unfit r ≡ 0
+  pub fit : region_check r ≡ Ok tt
   pub few : forced ≤ 512
   pub atoms_room : forced ≤ length atoms
   pub values_room : forced ≤ length values

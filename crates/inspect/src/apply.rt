@@ -9,7 +9,8 @@ use super::Applied;
 use region::Region;
 use rows::Atom;
 
-// How many atoms were decided as held and as cut, and whether one was decided otherwise.
+// How many atoms were decided as held and as cut, and whether one was decided otherwise: a flag and no Result, since the counts stand in
+// either case.
 #[derive(Clone, Copy)]
 struct Tally {
     held: usize,
@@ -24,16 +25,14 @@ fn force(held: &mut [u64; 8], cut: &mut [u64; 8], tally: Tally, atom: Atom, valu
 {
     if words::contains(held, atom.0) {
         return Tally {
-            held: tally.held,
-            cut: tally.cut,
             against: !value,
+            ..tally
         };
     }
     if words::contains(cut, atom.0) {
         return Tally {
-            held: tally.held,
-            cut: tally.cut,
             against: value,
+            ..tally
         };
     }
     if value {
@@ -64,19 +63,17 @@ pub fn apply(region: Region, forced: usize, atoms: &[usize], values: &[u8]) -> A
         cut: 0,
         against: false,
     };
-    let mut i = 0;
-    while i < forced {
-        tally = force(&mut held, &mut cut, tally, Atom(atoms[i]), values[i] == 1);
+    for (atom, value) in atoms[..forced].iter().zip(&values[..forced]) {
+        tally = force(&mut held, &mut cut, tally, Atom(*atom), *value == 1);
         if tally.against {
             break;
         }
-        i += 1;
     }
     Applied {
         region: Region {
             atoms: region.atoms,
-            held: held,
-            cut: cut,
+            held,
+            cut,
         },
         held: tally.held,
         cut: tally.cut,

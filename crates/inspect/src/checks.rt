@@ -1,8 +1,9 @@
-// The number under which `inspect` refuses: 10, 13 for the rank, 9, 11, 12, 13 for a basis entry, 14, 15, 16.
+// Whether what `inspect` is asked is fit: document 01's numbers 10, 13 for the rank, 9, 11, 12, 13 for a basis entry, 14, 15, 16.
 ghost use Rattle.std.specs.Prelude.{◌≡◌, ◌≤◌};
-ghost use Rattle.inspect.specs.Inspect.{filled, lists_short, inspect_unfit};
+ghost use Rattle.inspect.specs.Inspect.{filled, lists_short, inspect_check};
 
 use parity::System;
+use refusal::Refusal;
 use region::Region;
 use snapshot::Snapshot;
 
@@ -11,20 +12,15 @@ fn lists_short(system: System, basis: usize, index: usize, atoms: usize, values:
     requires { (system.atoms ≤ 512) × (system.rank ≤ 512) }
     ensures { result ≡ lists_short system basis index atoms values }
 {
-    if basis < fit::least(system.rows, system.atoms) {
-        return true;
-    }
-    if index < system.atoms * index::column_width(system.rank) {
-        return true;
-    }
-    if atoms < system.rank {
-        return true;
-    }
-    values < system.rank
+    basis < system.rows.min(system.atoms)
+        || index < system.atoms * index::column_width(system.rank)
+        || atoms < system.rank
+        || values < system.rank
 }
 
-// The number, or 0.
-pub fn unfit(
+// The checks in their order.
+#[tactic(auto, unfolding(crate::specs::Inspect::inspect_check, fit::specs::Rows::rows_check, region::specs::Calls::region_check))]
+pub fn check(
     system: System,
     rows: &[u64],
     constants: &[u8],
@@ -34,40 +30,31 @@ pub fn unfit(
     known: Snapshot,
     atoms: usize,
     values: usize,
-) -> usize
-    ensures { result ≡ inspect_unfit system (filled rows.now constants.now basis.now index.now) region known atoms values }
+) -> Result<(), Refusal>
+    ensures { result ≡ inspect_check system (filled rows.now constants.now basis.now index.now) region known atoms values }
 {
     if known.overfull(system, region) {
-        return 10;
+        return Err(Refusal::Overfull);
     }
-    if system.rank > fit::least(system.rows, system.atoms) {
-        return 13;
-    }
-    let lent = fit::rows_number(system.atoms, system.rows, rows, constants);
-    if lent == 9 {
-        return 9;
+    if system.rank > system.rows.min(system.atoms) {
+        return Err(Refusal::Basis);
     }
     if lists_short(system, basis.len(), index.len(), atoms, values) {
-        return 9;
+        return Err(Refusal::Short);
     }
-    if lent == 11 {
-        return 11;
-    }
-    let number = region.number();
-    if number != 0 {
-        return number;
-    }
+    fit::check_rows(system.atoms, system.rows, rows, constants)?;
+    region.check()?;
     if fit::any_misnames(basis, system.rows, system.rank) {
-        return 13;
+        return Err(Refusal::Basis);
     }
     if snapshot::past_rank(system, index) {
-        return 14;
+        return Err(Refusal::Index);
     }
     if known.unequal(system, region) {
-        return 15;
+        return Err(Refusal::Unequal);
     }
     if known.missing(region) {
-        return 16;
+        return Err(Refusal::Missing);
     }
-    0
+    Ok(())
 }

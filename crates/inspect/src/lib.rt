@@ -2,13 +2,15 @@
 // came, that region is published, and what follows from single rows is then decided in basis order.
 #![tactic(auto)]
 
-ghost use Rattle.std.specs.Prelude.{◌≡◌};
+ghost use Rattle.std.specs.Prelude.{◌≡◌, Ok};
 ghost use Rattle.region.specs.Masks.{decisions};
+ghost use Rattle.region.specs.Calls.{region_check};
 ghost use Rattle.inspect.specs.Batch.{begun, applied};
 ghost use Rattle.inspect.specs.Inspect.{filled, told_of, outcome, answer_of, ended, inspect_of};
-ghost use Rattle.inspect.specs.Steps.{Applicable, forced_in};
+ghost use Rattle.inspect.specs.Steps.{Masked, Applicable, forced_in};
 
-use parity::System;
+use parity::{Basis, System};
+use refusal::Refusal;
 use region::Region;
 use rows::Atom;
 use snapshot::Snapshot;
@@ -19,22 +21,49 @@ mod collect;
 pub mod promises;
 mod says;
 
-// What a row says against a region: nothing, an atom with its value, or that its parity is wrong.
+// What a row with one open atom forces: the atom's value.
 #[derive(Clone, Copy)]
-enum Reading {
-    Quiet,
-    Forces(Atom, bool),
+struct Forced {
+    atom: Atom,
+    value: bool,
+}
+
+// What refutes at a row: no open atom and the wrong parity.
+#[derive(Clone, Copy)]
+enum Fault {
     Wrong,
 }
 
-// The forced list's length, and whether no row was wrong.
+// A wrong row among those touched, behind so many forced atoms.
 #[derive(Clone, Copy)]
-struct Collected {
+struct Contradiction {
     forced: usize,
-    sound: bool,
 }
 
-// A region with forced atoms decided, how many of them as held and as cut, and whether one was decided otherwise.
+// The atoms that a region holds, and those that it leaves open.
+#[derive(Clone, Copy)]
+pub struct Masks {
+    pub held: [u64; 8],
+    pub free: [u64; 8],
+}
+
+impl Masks {
+    // The open atoms are those that are not held and not cut; atoms from n on are among them, but no row has one.
+    pub fn of(region: Region) -> Masks
+        ensures { region_check region ≡ Ok tt → Masked region.atoms (decisions region) result.held result.free }
+    {
+        let mut free = [u64::MAX; 8];
+        words::xor_assign(&mut free, &region.held);
+        words::xor_assign(&mut free, &region.cut);
+        Masks {
+            held: region.held,
+            free,
+        }
+    }
+}
+
+// A region with forced atoms decided, how many of them as held and as cut, and whether one was decided otherwise: a flag and no Result,
+// since "earlier ones stand" then too.
 #[derive(Clone, Copy)]
 struct Applied {
     region: Region,
@@ -43,13 +72,12 @@ struct Applied {
     against: bool,
 }
 
-// What becomes of an inspection.
+// What becomes of an inspection that is not refused.
 #[derive(Clone, Copy)]
 pub enum Step {
     Unchanged,
     Changed,
     Refuted,
-    Refused(usize),
 }
 
 // What `inspect` answers: how many atoms it decided as held and as cut, the forced list's length, and region and knowledge as they are now.
@@ -63,24 +91,17 @@ pub struct Inspected {
     pub known: Snapshot,
 }
 
-// A result by its fields.
-fn told(
-    answer: Step,
-    held: usize,
-    cut: usize,
-    forced: usize,
-    region: Region,
-    known: Snapshot,
-) -> Inspected
-    ensures { result ≡ told_of answer held cut forced region known }
+// An inspection that decides nothing: region and knowledge stand.
+fn stands(answer: Step, forced: usize, region: Region, known: Snapshot) -> Inspected
+    ensures { result ≡ told_of answer 0 0 forced region known }
 {
     Inspected {
-        answer: answer,
-        held: held,
-        cut: cut,
-        forced: forced,
-        region: region,
-        known: known,
+        answer,
+        held: 0,
+        cut: 0,
+        forced,
+        region,
+        known,
     }
 }
 
@@ -89,14 +110,12 @@ fn answer(held: usize, cut: usize, against: bool) -> Step
     ensures { result ≡ answer_of held cut against }
 {
     if against {
-        return Step::Refuted;
+        Step::Refuted
+    } else if held == 0 && cut == 0 {
+        Step::Unchanged
+    } else {
+        Step::Changed
     }
-    if held == 0 {
-        if cut == 0 {
-            return Step::Unchanged;
-        }
-    }
-    Step::Changed
 }
 
 // Publishes the region as it came, and applies the forced list.
@@ -110,19 +129,21 @@ fn conclude(
     requires { Applicable region forced atoms.now values.now }
     ensures { result ≡ ended (applied (begun (decisions region)) (forced_in atoms.now values.now forced)) forced region }
 {
-    let published = known.publish(region);
+    let mut learnt = known;
+    learnt.publish(region).unwrap();
     let applied = apply::apply(region, forced, atoms, values);
-    told(
-        answer(applied.held, applied.cut, applied.against),
-        applied.held,
-        applied.cut,
+    Inspected {
+        answer: answer(applied.held, applied.cut, applied.against),
+        held: applied.held,
+        cut: applied.cut,
         forced,
-        applied.region,
-        published.known,
-    )
+        region: applied.region,
+        known: learnt,
+    }
 }
 
-// Inspects the touched basis rows of a prepared system against a region, once.
+// Inspects the touched basis rows of a prepared system against a region, once. Lists are lent one by one, as C lends them.
+#[tactic(auto, unfolding(crate::specs::Inspect::inspect_of))]
 pub fn inspect(
     system: System,
     rows: &[u64],
@@ -133,10 +154,10 @@ pub fn inspect(
     known: Snapshot,
     forced_atoms: &mut [usize],
     forced_values: &mut [u8],
-) -> Inspected
+) -> Result<Inspected, Refusal>
     ensures { outcome result forced_atoms.new forced_values.new ≡ inspect_of system (filled rows.now constants.now basis.now index.now) region known forced_atoms.old forced_values.old }
 {
-    let number = checks::unfit(
+    checks::check(
         system,
         rows,
         constants,
@@ -146,30 +167,23 @@ pub fn inspect(
         known,
         forced_atoms.len(),
         forced_values.len(),
-    );
-    if number != 0 {
-        return told(Step::Refused(number), 0, 0, 0, region, known);
-    }
+    )?;
     if system.refuted {
-        return told(Step::Refuted, 0, 0, 0, region, known);
+        return Ok(stands(Step::Refuted, 0, region, known));
     }
     if system.rank == 0 {
-        return told(Step::Unchanged, 0, 0, 0, region, known);
+        return Ok(stands(Step::Unchanged, 0, region, known));
     }
     let touched = snapshot::select(system.rank, index, region, known);
-    let collected = collect::collect_touched(
-        system,
+    let lent = Basis {
+        atoms: system.atoms,
+        rank: system.rank,
         rows,
         constants,
-        basis,
-        touched,
-        region,
-        forced_atoms,
-        forced_values,
-    );
-    let forced = collected.forced;
-    if !collected.sound {
-        return told(Step::Refuted, 0, 0, forced, region, known);
+        entries: basis,
+    };
+    match collect::collect_touched(&lent, touched, region, forced_atoms, forced_values) {
+        Ok(forced) => Ok(conclude(region, known, forced, forced_atoms, forced_values)),
+        Err(found) => Ok(stands(Step::Refuted, found.forced, region, known)),
     }
-    conclude(region, known, forced, forced_atoms, forced_values)
 }

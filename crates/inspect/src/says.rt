@@ -1,67 +1,53 @@
 // One row read against a region, by the atoms held and the atoms open in it.
-ghost use Rattle.std.specs.Prelude.{◌≡◌, ◌≤◌, length};
+ghost use Rattle.std.specs.Prelude.{◌≡◌, ◌≤◌, ◌<◌, cond, eqb, length};
 ghost use Rattle.std.specs.Int.Bits.{bit_and};
 ghost use Rattle.std.specs.Int.Count.{ones};
 ghost use Rattle.words.specs.Set.{set_of, low};
-ghost use Rattle.rows.specs.Flat.{width_of, row, atoms_of, row_at};
-ghost use Rattle.inspect.specs.Consequences.{reading_of};
-ghost use Rattle.inspect.specs.Steps.{Legible};
+ghost use Rattle.inspect.specs.Steps.{reading_at};
 
-use super::Reading;
-use rows::{Atom, Source};
+use super::{Fault, Forced, Masks};
+use parity::Basis;
+use rows::{Atom, Ordinal};
 
-// The lowest atom that a row has in common with a mask, or 0.
-fn first_common(row: &[u64], mask: &[u64]) -> usize
-    requires { (length row.now ≤ 8) × (length row.now ≤ length mask.now) }
-    ensures { result ≡ low (bit_and (set_of row.now) (set_of mask.now)) }
+// The lowest atom that a row shares with a mask, if it shares any; how many it shares is known, so that the words are not read for none.
+fn first_common(row: &[u64], mask: &[u64; 8], shared: usize) -> Option<usize>
+    requires few { length row.now ≤ 8 }
+    requires counted { shared ≡ ones (bit_and (set_of row.now) (set_of mask.now)) }
+    ensures { let common = bit_and (set_of row.now) (set_of mask.now) in result ≡ cond (eqb common 0) None (Some (low common)) }
 {
-    let mut i = 0;
-    while i < row.len() {
-        let word = row[i] & mask[i];
-        if word != 0 {
-            return i * 64 + u64::trailing_zeros(word) as usize;
+    if shared == 0 {
+        return None;
+    }
+    for (i, word) in row.iter().enumerate() {
+        let common = *word & mask[i];
+        if common != 0 {
+            return Some(i * 64 + u64::trailing_zeros(common) as usize);
         }
-        i += 1;
     }
-    0
+    None
 }
 
-// How many atoms of a mask a row has.
-fn shared(n: usize, rows: &[u64], constants: &[u8], number: Source, mask: &[u64; 8]) -> usize
-    requires { Legible n rows.now constants.now number.0 }
-    ensures { result ≡ ones (bit_and (set_of (row (width_of n) rows.now number.0)) (set_of mask.now)) }
+// What the row says that a place of the basis names.
+pub fn read(basis: &Basis, place: Ordinal, masks: &Masks) -> Result<Option<Forced>, Fault>
+    requires { place.0 < basis.now.rank }
+    ensures { result ≡ reading_at basis.now masks.now place.0 }
 {
-    match rows::overlap_count(rows, rows::width(n), number, mask) {
-        rows::Overlap::Atoms(k) => k,
-        rows::Overlap::Outside => 0,
-    }
-}
-
-// What a row says.
-pub fn read(
-    n: usize,
-    rows: &[u64],
-    constants: &[u8],
-    number: Source,
-    held: &[u64; 8],
-    free: &[u64; 8],
-) -> Reading
-    requires { Legible n rows.now constants.now number.0 }
-    ensures { result ≡ reading_of (atoms_of n (set_of held.now)) (atoms_of n (set_of free.now)) (row_at n (width_of n) rows.now constants.now number.0) }
-{
-    let open = shared(n, rows, constants, number, free);
+    let Some(words) = basis.row(place) else {
+        return Ok(None);
+    };
+    let open = words::intersection_count(words, &masks.free[..words.len()]).unwrap_or(0);
     if open > 1 {
-        return Reading::Quiet;
+        return Ok(None);
     }
-    let parity = rows::overlaps_odd(rows, rows::width(n), number, held);
-    let source = number.0;
-    let constant = constants[source] == 1;
-    if open == 1 {
-        let atom = first_common(rows::row(rows, rows::width(n), number), free);
-        return Reading::Forces(Atom(atom), constant != parity);
+    let parity = words::intersection_parity(words, &masks.held[..words.len()]).unwrap_or(false);
+    let source = basis.entries[place.0];
+    let constant = basis.constants[source] == 1;
+    match first_common(words, &masks.free, open) {
+        Some(atom) => Ok(Some(Forced {
+            atom: Atom(atom),
+            value: constant != parity,
+        })),
+        None if parity == constant => Ok(None),
+        None => Err(Fault::Wrong),
     }
-    if parity == constant {
-        return Reading::Quiet;
-    }
-    Reading::Wrong
 }

@@ -1,85 +1,55 @@
 -- One record's line and call, by its kind.
-use Prim.Native.Nat.{ℕ, ◌≤◌}
-use mathlib.Core.Path.{◌≡◌, refl, sym, ap, subst, ◌∙◌}
-use mathlib.Core.List.{List}
-use mathlib.Core.Bool.{Bool, cond}
-use native.Mathlib.Omega.{arith}
+use Rattle.std.proofs.Common.{◌≡◌, ℕ, List, ap, refl, sym, ◌∙◌, Result, Ok, Err}
 use borrow.Author.Tests.{eq-eqb, ne_eqb}
-use lib.ListN.{length, replicate}
-use Rattle.fit.specs.Rows.{limit}
+use native.Mathlib.Omega.{arith}
+use Rattle.refusal.specs.declared.Refusal.{Refusal}
 use Rattle.parity.specs.declared.System.{System}
-use Rattle.region.specs.Calls.{hold_of, cut_of}
-use Rattle.region.specs.declared.Region.{Region}
-use Rattle.region.specs.declared.Decided.{Decided}
-use Rattle.snapshot.specs.declared.Snapshot.{Snapshot}
-use Rattle.inspect.specs.Inspect.{Filled, Outcome, outcome, inspect_of}
-use Rattle.inspect.specs.Run.{Call, hold, cut, State}
-use Rattle.inspect.specs.declared.Inspected.{Inspected}
+use Rattle.inspect.specs.Inspect.{Filled}
 use Rattle.probe.specs.Probe.{probe_of}
 use Rattle.probe.specs.declared.Probed.{Probed}
-use Rattle.format.specs.Format.{kind_at, decided_at, value_at}
-use Rattle.text.specs.Text.{Wrote}
-use Rattle.text.proofs.Written.{wrote_is, wrote_start}
-use Rattle.lines.specs.Lines.{probe_line, decide_line, inspect_line, decision_at, inspection, calls_at, line_at}
-use Rattle.lines.specs.Steps.{state_with, Called, Turned}
-use Rattle.lines.specs.declared.Placed.{Placed}
+use Rattle.format.specs.Format.{kind_at}
+use Rattle.format.specs.Kind.{kind_of}
+use Rattle.format.specs.declared.Kind.{Kind}
+use Rattle.format.specs.declared.Kind.TheVariants.{Decide, Inspect, Probe}
+use Rattle.format.specs.declared.UnknownKind.{UnknownKind}
+use Rattle.format.proofs.KindNumbers.{kind_named}
+use Rattle.text.specs.Puts.{Puts}
+use Rattle.text.specs.declared.Text.{Text}
+use Rattle.text.proofs.Puts.{puts_none, puts_is}
+use Rattle.lines.specs.Lines.{probe_line, decision_at, inspection, calls_at, line_at}
+use Rattle.lines.specs.Steps.{state_of, Called, Turned}
+use Rattle.lines.specs.declared.State.{State as Kept}
 
-abbrev placed : ℕ → Region → Snapshot → Placed
-placed q r known = record { place = q; region = r; known = known }
-
--- a decision, from the calls' answers
-module _ (file : List ℕ) (o : ℕ) (r : Region) (known : Snapshot) {atom value : ℕ} (a : atom ≡ decided_at file o) (v : value ≡ value_at file o) where
-  pub decided_hold : {d : Decided} {l m : List ℕ} {p q : ℕ} → value ≡ 1 → d ≡ hold_of r (record { 0 = atom }) → Wrote l p (decide_line atom 1 d.answer) m q
-      → Called (state_with r known) (decision_at file o) l p m (placed q d.region known)
-  decided_hold {d} {l} {m} {p} {q} one e w =
-      subst (λ (call : Call). Called (state_with r known) call l p m (placed q d.region known))
-      (ap (λ (x : ℕ). hold (record { 0 = x })) a
-      ∙ ap (λ (t : Bool). cond t (hold (record { 0 = decided_at file o })) (cut (record { 0 = decided_at file o }))) (sym (eq-eqb _ 1 (sym v ∙ one))))
-      (record {
-        wrote = wrote_is (ap (λ (x : Decided). decide_line atom 1 x.answer) e) w;
-        state = ap (λ (x : Decided). state_with x.region known) e;
-      })
-
-  pub decided_cut : {d : Decided} {l m : List ℕ} {p q : ℕ} → (value ≡ 1 → ⊥) → d ≡ cut_of r (record { 0 = atom }) → Wrote l p (decide_line atom 0 d.answer) m q
-      → Called (state_with r known) (decision_at file o) l p m (placed q d.region known)
-  decided_cut {d} {l} {m} {p} {q} other e w =
-      subst (λ (call : Call). Called (state_with r known) call l p m (placed q d.region known))
-      (ap (λ (x : ℕ). cut (record { 0 = x })) a
-      ∙ ap (λ (t : Bool). cond t (hold (record { 0 = decided_at file o })) (cut (record { 0 = decided_at file o })))
-      (sym (ne_eqb _ 1 (λ one. other (v ∙ one)))))
-      (record {
-        wrote = wrote_is (ap (λ (x : Decided). decide_line atom 0 x.answer) e) w;
-        state = ap (λ (x : Decided). state_with x.region known) e;
-      })
-
--- an inspection
-pub inspected : (s : System) (f : Filled) (r : Region) (known : Snapshot) {i : Inspected} {atoms values l m : List ℕ} {p q : ℕ}
-    → outcome i atoms values ≡ inspect_of s f r known (replicate limit 0) (replicate limit 0) → Wrote l p (inspect_line i) m q
-    → Called (state_with r known) (inspection s f) l p m (placed q i.region i.known)
-inspected s f r known e w =
-    let is = ap (λ (x : Outcome). x.result) e in
-    record { wrote = wrote_is (ap inspect_line is) w; state = ap (λ (x : Inspected). state_with x.region x.known) is }
-
--- a record of each kind
-module _ (file : List ℕ) (s : System) (f : Filled) (st : State) (o : ℕ) {l m : List ℕ} {p kind : ℕ} (is : kind ≡ kind_at file o) where
-  pub turn_decision : {r : Placed} → kind ≡ 4 → Called st (decision_at file o) l p m r → Turned file s f st o l p m r
+module _ (file : List ℕ) (s : System) (f : Filled) (kept : Kept) (o : ℕ) {t : Text} where
+  pub turn_decision : {u : Text} {left : Kept} → Ok Decide ≡ kind_of (kind_at file o) → Called (state_of kept) (decision_at file o) t u left
+      → Turned file s f (state_of kept) o t u left
   unfolding line_at calls_at
-  turn_decision k h = rw (eq-eqb (kind_at file o) 4 (sym is ∙ k)) h
+  turn_decision k h = rw (eq-eqb (kind_at file o) 4 (kind_named _ Decide (sym k))) h
 
-  pub turn_inspection : {r : Placed} → kind ≡ 5 → Called st (inspection s f) l p m r → Turned file s f st o l p m r
+  pub turn_inspection : {u : Text} {left : Kept} → Ok Inspect ≡ kind_of (kind_at file o) → Called (state_of kept) (inspection s f) t u left
+      → Turned file s f (state_of kept) o t u left
   unfolding line_at calls_at
-  turn_inspection k h = rw (ne_eqb (kind_at file o) 4 (λ n. omega arith), eq-eqb (kind_at file o) 5 (sym is ∙ k)) h
+  turn_inspection k h =
+      let five : kind_at file o ≡ 5 = kind_named _ Inspect (sym k) in
+      rw (ne_eqb (kind_at file o) 4 (λ n. omega arith), eq-eqb (kind_at file o) 5 five) h
 
-  pub turn_probe : {q : Probed} {place : ℕ} → kind ≡ 6 → q ≡ probe_of s f.rows f.constants f.basis st.region → Wrote l p (probe_line q) m place
-      → Turned file s f st o l p m (placed place st.region st.known)
+  pub turn_probe : {u : Text} {q : Result Probed Refusal} → Ok Probe ≡ kind_of (kind_at file o) → q ≡ probe_of s f.rows f.constants f.basis kept.region
+      → Puts t (probe_line q) u → Turned file s f (state_of kept) o t u kept
   unfolding line_at calls_at
-  turn_probe k e w =
-      rw (ne_eqb (kind_at file o) 4 (λ n. omega arith), ne_eqb (kind_at file o) 5 (λ n. omega arith), eq-eqb (kind_at file o) 6 (sym is ∙ k))
-      (record { wrote = wrote_is (ap probe_line e) w; state = refl })
+  turn_probe k e p =
+      let six : kind_at file o ≡ 6 = kind_named _ Probe (sym k) in
+      rw (ne_eqb (kind_at file o) 4 (λ n. omega arith), ne_eqb (kind_at file o) 5 (λ n. omega arith), eq-eqb (kind_at file o) 6 six)
+      (record { puts = puts_is (ap probe_line e) p; state = refl })
 
-pub turn_other : (file : List ℕ) (s : System) (f : Filled) (st : State) (o : ℕ) (l : List ℕ) (p : ℕ) {kind : ℕ} → kind ≡ kind_at file o
-    → (kind ≡ 4 → ⊥) → (kind ≡ 5 → ⊥) → (kind ≡ 6 → ⊥) → p ≤ length l → Turned file s f st o l p l (placed p st.region st.known)
-unfolding line_at calls_at
-turn_other file s f st o l p is four five six h =
-    rw (ne_eqb (kind_at file o) 4 (λ n. four (is ∙ n)), ne_eqb (kind_at file o) 5 (λ n. five (is ∙ n)), ne_eqb (kind_at file o) 6 (λ n. six (is ∙ n)))
-    (record { wrote = wrote_start l p (omega arith); state = refl })
+  turn_neither : (kind_at file o ≡ 4 → ⊥) → (kind_at file o ≡ 5 → ⊥) → (kind_at file o ≡ 6 → ⊥) → Turned file s f (state_of kept) o t t kept
+  unfolding line_at calls_at
+  turn_neither four five six =
+      rw (ne_eqb (kind_at file o) 4 four, ne_eqb (kind_at file o) 5 five, ne_eqb (kind_at file o) 6 six) (record { puts = puts_none t; state = refl })
+
+  pub turn_other : (kind : Kind) → Ok kind ≡ kind_of (kind_at file o) → (kind ≡ Decide → ⊥) → (kind ≡ Inspect → ⊥) → (kind ≡ Probe → ⊥)
+      → Turned file s f (state_of kept) o t t kept
+  turn_other kind k d i p =
+      turn_neither (λ n. let e = k ∙ ap kind_of n in d (cc)) (λ n. let e = k ∙ ap kind_of n in i (cc)) (λ n. let e = k ∙ ap kind_of n in p (cc))
+
+  pub turn_unknown : (e : UnknownKind) → Err e ≡ kind_of (kind_at file o) → Turned file s f (state_of kept) o t t kept
+  turn_unknown e k = turn_neither (λ n. let z = k ∙ ap kind_of n in cc) (λ n. let z = k ∙ ap kind_of n in cc) (λ n. let z = k ∙ ap kind_of n in cc)

@@ -1,6 +1,7 @@
 -- "Each record of kind 4 to 6 then adds its line, over one region that begins undecided and one knowledge that begins fresh."
-use Rattle.std.specs.Prelude.{ℕ, List, [], ◌∷◌, ◌++◌, cond, replicate, eqb}
+use Rattle.std.specs.Prelude.{ℕ, List, [], ◌∷◌, ◌++◌, false, cond, replicate, eqb, Result, Ok, Err}
 use Rattle.rows.specs.declared.Atom.{Atom}
+use Rattle.refusal.specs.declared.Refusal.{Refusal}
 use Rattle.fit.specs.Rows.{limit}
 use Rattle.parity.specs.declared.System.{System}
 use Rattle.region.specs.Calls.{hold_of, cut_of}
@@ -14,20 +15,23 @@ use Rattle.format.specs.Format.{kind_at, decided_at, value_at}
 use Rattle.text.specs.Text.{two_of}
 use Rattle.lines.specs.Words.{bytes, space, newline, answer_word, step_word, probe_word}
 
--- "Fields: .. yes or no, u, k; atom, value, answer; answer, held, cut."
-abbrev pub probe_line : Probed → List ℕ
-probe_line q = two_of (probe_word q.yes) q.undecided space q.kept newline
+-- "Fields: .. yes or no, u, k; atom, value, answer; answer, held, cut." A refused probe says no, a refused decision or inspection `refused`, and
+-- u, k, held and cut are then 0.
+abbrev pub probe_line : Result Probed Refusal → List ℕ
+probe_line (Ok q) = two_of (probe_word q.yes) q.undecided space q.kept newline
+probe_line (Err refusal) = two_of (probe_word false) 0 space 0 newline
 
-abbrev pub decide_line : ℕ → ℕ → Answer → List ℕ
+abbrev pub decide_line : ℕ → ℕ → Result Answer Refusal → List ℕ
 decide_line atom value answer = two_of (bytes "decide ") atom space value (answer_word answer)
 
-abbrev pub inspect_line : Inspected → List ℕ
-inspect_line i = two_of (step_word i.answer) i.held space i.cut newline
+abbrev pub inspect_line : Result Inspected Refusal → List ℕ
+inspect_line (Ok i) = two_of (step_word i.answer) i.held space i.cut newline
+inspect_line (Err refusal) = two_of (bytes "inspect refused ") 0 space 0 newline
 
 -- The line of a call that finds a region and a knowledge.
 abbrev pub call_line : State → Call → List ℕ
-call_line st (hold a) = decide_line a.0 1 (hold_of st.region a).answer
-call_line st (cut a) = decide_line a.0 0 (cut_of st.region a).answer
+call_line st (hold a) = decide_line a.0 1 (hold_of st.region a).0
+call_line st (cut a) = decide_line a.0 0 (cut_of st.region a).0
 call_line st (inspect s l atoms values) = inspect_line (inspect_of s l st.region st.known atoms values).result
 
 -- "4, a decision: atom, value byte 0 or 1": true is held, false cut.

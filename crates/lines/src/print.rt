@@ -1,46 +1,80 @@
 // One line each, of the answers that the calls give.
-ghost use Rattle.text.specs.Text.{Wrote};
+ghost use Rattle.std.specs.Prelude.{◌≡◌};
+ghost use Rattle.text.specs.Puts.{Puts};
+ghost use Rattle.lines.specs.Words.{answer_word, step_word, probe_word};
 ghost use Rattle.lines.specs.Lines.{probe_line, decide_line, inspect_line};
 
 use inspect::{Inspected, Step};
 use probe::Probed;
+use refusal::Refusal;
 use region::Answer;
+use text::Text;
 
-// "probe": yes or no, u, k.
-pub fn put_probe(out: &mut [u8], at: usize, probed: Probed) -> usize
-    ensures { Wrote out.old at (probe_line probed) out.new result }
+// How the line of a probe begins.
+fn probe_word(yes: bool) -> &'static [u8]
+    ensures { result.now ≡ probe_word yes }
 {
-    let u = probed.undecided;
-    let k = probed.kept;
-    if probed.yes {
-        return text::put_two(out, at, b"probe yes ", u, b" ", k, b"\n");
+    if yes { b"probe yes " } else { b"probe no " }
+}
+
+// "probe": yes or no, u, k. A refused probe says no, with u and k 0.
+pub fn put_probe(text: &mut Text, probed: Result<Probed, Refusal>)
+    ensures { Puts text.old (probe_line probed) text.new }
+{
+    match probed {
+        Ok(probed) => text.put_two(
+            probe_word(probed.yes),
+            probed.undecided,
+            b" ",
+            probed.kept,
+            b"\n",
+        ),
+        Err(_) => text.put_two(probe_word(false), 0, b" ", 0, b"\n"),
     }
-    text::put_two(out, at, b"probe no ", u, b" ", k, b"\n")
+}
+
+// How the line of a decision ends.
+fn answer_word(answer: Result<Answer, Refusal>) -> &'static [u8]
+    ensures { result.now ≡ answer_word answer }
+{
+    match answer {
+        Ok(Answer::Taken) => b" taken\n",
+        Ok(Answer::Same) => b" same\n",
+        Ok(Answer::Against) => b" against\n",
+        Err(_) => b" refused\n",
+    }
 }
 
 // "decide": atom, value, answer.
-pub fn put_decision(out: &mut [u8], at: usize, atom: usize, value: usize, answer: Answer) -> usize
-    ensures { Wrote out.old at (decide_line atom value answer) out.new result }
+pub fn put_decision(text: &mut Text, atom: usize, value: usize, answer: Result<Answer, Refusal>)
+    ensures { Puts text.old (decide_line atom value answer) text.new }
+{
+    text.put_two(b"decide ", atom, b" ", value, answer_word(answer));
+}
+
+// How the line of an inspection begins.
+fn step_word(answer: Step) -> &'static [u8]
+    ensures { result.now ≡ step_word answer }
 {
     match answer {
-        Answer::Taken => text::put_two(out, at, b"decide ", atom, b" ", value, b" taken\n"),
-        Answer::Same => text::put_two(out, at, b"decide ", atom, b" ", value, b" same\n"),
-        Answer::Against => text::put_two(out, at, b"decide ", atom, b" ", value, b" against\n"),
-        Answer::Refused(_) => text::put_two(out, at, b"decide ", atom, b" ", value, b" refused\n"),
+        Step::Unchanged => b"inspect unchanged ",
+        Step::Changed => b"inspect changed ",
+        Step::Refuted => b"inspect refuted ",
     }
 }
 
-// "inspect": answer, held, cut.
-pub fn put_inspection(out: &mut [u8], at: usize, inspected: Inspected) -> usize
-    ensures { Wrote out.old at (inspect_line inspected) out.new result }
+// "inspect": answer, held, cut. A refused inspection says so, with held and cut 0.
+pub fn put_inspection(text: &mut Text, inspected: Result<Inspected, Refusal>)
+    ensures { Puts text.old (inspect_line inspected) text.new }
 {
-    let answer = inspected.answer;
-    let held = inspected.held;
-    let cut = inspected.cut;
-    match answer {
-        Step::Unchanged => text::put_two(out, at, b"inspect unchanged ", held, b" ", cut, b"\n"),
-        Step::Changed => text::put_two(out, at, b"inspect changed ", held, b" ", cut, b"\n"),
-        Step::Refuted => text::put_two(out, at, b"inspect refuted ", held, b" ", cut, b"\n"),
-        Step::Refused(_) => text::put_two(out, at, b"inspect refused ", held, b" ", cut, b"\n"),
+    match inspected {
+        Ok(inspected) => text.put_two(
+            step_word(inspected.answer),
+            inspected.held,
+            b" ",
+            inspected.cut,
+            b"\n",
+        ),
+        Err(_) => text.put_two(b"inspect refused ", 0, b" ", 0, b"\n"),
     }
 }

@@ -53,7 +53,7 @@ module _ (file : List ℕ) (n o : ℕ) where
   rows_both [] qs = refl
   rows_both (p ∷ ps) qs = ap (λ (l : List Row). rows_of n p ++ l) (rows_both ps qs) ∙ sym (append_assoc (rows_of n p) (all_rows n ps) (all_rows n qs))
 
-  abbrev from : ℕ → List Row
+  abbrev pub from : ℕ → List Row
   from i = all_rows n (parts_from file n (starts file i))
 
   pub from_more : o < length file → from o ≡ here ++ from (next_at file o)
@@ -101,7 +101,7 @@ module _ (file : List ℕ) (n : ℕ) where
   all_fit [] fit = tt
   all_fit (o ∷ os) fit = fit_both (parts_at file n o) (parts_from file n os) (here_fit o fit.0) (all_fit os fit.1)
 
-  here_count : (o : ℕ) → length (all_rows n (parts_at file n o)) ≡ rows_at file (kind_at file o) o
+  here_count : (o : ℕ) → length (all_rows n (parts_at file n o)) ≡ rows_at file o
   unfolding parts_at rows_at
   here_count o = two (eqb (kind_at file o) 2)
     where

@@ -3,5 +3,6 @@ pub mod Inserted
 pub mod Loading
 pub mod Tabled
 pub mod Handed
+pub mod Filled
 pub mod Whole
 pub mod Promised

@@ -1,22 +1,22 @@
 -- Rows written one after another: a row, and what is left to write, with the turns of `load_records`.
 use Prim.Native.Nat.{ℕ, zero, suc, ◌+◌, ◌*◌, ◌≤◌}
-use mathlib.Core.Path.{◌≡◌, refl, sym, ap, ap₂, ◌∙◌}
+use mathlib.Core.Path.{◌≡◌, refl, sym, ap, ap₂, subst, ◌∙◌}
 use mathlib.Core.List.{List, [], ◌∷◌, ◌++◌, append-nil, append_assoc, reverse, reverse-append}
 use mathlib.Core.Bool.{cond}
 use native.Mathlib.Nat.{zero-add, add-zero, add-mul, zero-mul, mul-le-mul_right}
 use native.Mathlib.Omega.{arith}
-use lib.ListN.{length, take, drop, set, replicate, length-append, length-reverse}
-use lib.Seq.{sets, sets-eq, length-sets}
+use lib.ListN.{length, take, drop, set, replicate, length-append, length-drop, length-reverse}
+use lib.Seq.{sets, sets-eq, length-sets, length-take-le, drop-drop}
 use lib.Dec.{eqb}
 use Rattle.text.proofs.Written.{sets_append}
 use Rattle.rows.specs.Row.{Row}
-use Rattle.rows.specs.Flat.{mask_of, unpack}
+use Rattle.rows.specs.Flat.{width_of, mask_of, unpack}
 use Rattle.echelon.specs.Eliminate.{words_of, constants_of}
 use Rattle.echelon.proofs.Written.{unpack_length, words_length, constants_length}
 use Rattle.records.specs.Promises.{AllBelow}
 use Rattle.load.specs.Parts.{set_named}
 use Rattle.load.specs.Steps.{inserted_all, Room, Loaded}
-use Rattle.load.proofs.Inserted.{named_words}
+use Rattle.load.proofs.Inserted.{wide, named_words}
 
 -- ---- the words and constants of rows in their order
 
@@ -70,6 +70,23 @@ row_loaded n w at ws cs atoms v wide below small room ws' is =
       constants = ap (set cs at) (bit_of v small);
     }
 
+-- with the width as it was worked out, and the part of the words that the row stands in
+pub row_put : (n at : ℕ) (ws cs atoms row : List ℕ) (v w k : ℕ) → AllBelow n atoms → v ≤ 1
+    → let r : Row = record { atoms = set_named n atoms; constant = eqb v 1 } in
+    Room (width_of n) (r ∷ []) ws cs at → w ≡ width_of n → k ≡ w → row ≡ inserted_all atoms (replicate (length (take k (drop (at * w) ws))) 0)
+    → Loaded (width_of n) (r ∷ []) ws cs at (take (at * w) ws ++ (row ++ drop k (drop (at * w) ws))) (set cs at v) (at + 1)
+row_put n at ws cs atoms row v w k below small room e f is =
+    row_loaded n (width_of n) at ws cs atoms v (wide n) below small room _
+    (ap₂ (λ (i : ℕ) (l : List ℕ). take i ws ++ l) (ap (λ (j : ℕ). at * j) e)
+    (ap₂ ◌++◌ (is ∙ ap (λ (j : ℕ). inserted_all atoms (replicate j 0)) (part ∙ e))
+    (drop-drop k (at * w) ws ∙ ap (λ (j : ℕ). drop j ws) (ap₂ (λ (i j : ℕ). at * i + j) e (f ∙ e)))))
+  where
+    part : length (take k (drop (at * w) ws)) ≡ w
+    part =
+        let fits : at * width_of n + width_of n ≤ length ws = omega (arith, room.words, add-mul at 1 (width_of n)) in
+        let room' : at * w + w ≤ length ws = subst (λ (j : ℕ). at * j + j ≤ length ws) (sym e) fits in
+        length-take-le k (drop (at * w) ws) (omega (arith, f, room', length-drop (at * w) ws)) ∙ f
+
 -- ---- none
 
 pub none_loaded : (w : ℕ) (ws cs : List ℕ) (at : ℕ) → Loaded w [] ws cs at ws cs at
@@ -78,28 +95,28 @@ none_loaded w ws cs at = record { place = sym (add-zero at); words = refl; const
 
 -- ---- what is left
 
-pub record Left (w : ℕ) (all : List Row) (ws₀ cs₀ : List ℕ) (rs : List Row) (ws cs : List ℕ) (at : ℕ) : Type 0 where
-  pub place : at + length rs ≡ length all
+pub record Left (w : ℕ) (all : List Row) (ws₀ cs₀ : List ℕ) (at₀ : ℕ) (rs : List Row) (ws cs : List ℕ) (at : ℕ) : Type 0 where
+  pub place : at + length rs ≡ at₀ + length all
   pub kept : length ws ≡ length ws₀
   pub kept' : length cs ≡ length cs₀
-  pub words : sets ws (at * w) (words_of w (reverse rs)) ≡ sets ws₀ (0 * w) (words_of w (reverse all))
-  pub constants : sets cs at (constants_of (reverse rs)) ≡ sets cs₀ 0 (constants_of (reverse all))
+  pub words : sets ws (at * w) (words_of w (reverse rs)) ≡ sets ws₀ (at₀ * w) (words_of w (reverse all))
+  pub constants : sets cs at (constants_of (reverse rs)) ≡ sets cs₀ at₀ (constants_of (reverse all))
 
-pub left_start : (w : ℕ) (all : List Row) (ws cs : List ℕ) → Left w all ws cs all ws cs 0
-left_start w all ws cs = record { place = zero-add (length all); kept = refl; kept' = refl; words = refl; constants = refl }
+pub left_start : (w : ℕ) (all : List Row) (ws cs : List ℕ) (at : ℕ) → Left w all ws cs at all ws cs at
+left_start w all ws cs at = record { place = refl; kept = refl; kept' = refl; words = refl; constants = refl }
 
-module _ (w : ℕ) (all : List Row) (ws₀ cs₀ : List ℕ) (ws cs : List ℕ) (at : ℕ) where
-  pub left_end : Left w all ws₀ cs₀ [] ws cs at → Loaded w all ws₀ cs₀ 0 ws cs at
+module _ (w : ℕ) (all : List Row) (ws₀ cs₀ : List ℕ) (at₀ : ℕ) (ws cs : List ℕ) (at : ℕ) where
+  pub left_end : Left w all ws₀ cs₀ at₀ [] ws cs at → Loaded w all ws₀ cs₀ at₀ ws cs at
   unfolding words_of constants_of
-  left_end so = record { place = sym (add-zero at) ∙ so.place ∙ sym (zero-add (length all)); words = so.words; constants = so.constants }
+  left_end so = record { place = sym (add-zero at) ∙ so.place; words = so.words; constants = so.constants }
 
-  module _ (rs ss : List Row) (so : Left w all ws₀ cs₀ (rs ++ ss) ws cs at) where
-    pub left_room : Room w all ws₀ cs₀ 0 → Room w rs ws cs at
+  module _ (rs ss : List Row) (so : Left w all ws₀ cs₀ at₀ (rs ++ ss) ws cs at) where
+    pub left_room : Room w all ws₀ cs₀ at₀ → Room w rs ws cs at
     left_room room =
-        let le : at + length rs ≤ 0 + length all = omega (arith, so.place, length-append rs ss) in
+        let le : at + length rs ≤ at₀ + length all = omega (arith, so.place, length-append rs ss) in
         record { words = omega (arith, mul-le-mul_right w le, room.words, so.kept); constants = omega (arith, room.constants, so.kept') }
 
-    pub left_next : (ws' cs' : List ℕ) (next : ℕ) → Loaded w rs ws cs at ws' cs' next → Left w all ws₀ cs₀ ss ws' cs' next
+    pub left_next : (ws' cs' : List ℕ) (next : ℕ) → Loaded w rs ws cs at ws' cs' next → Left w all ws₀ cs₀ at₀ ss ws' cs' next
     left_next ws' cs' next now =
         let p = words_of w (reverse rs) in
         let c = constants_of (reverse rs) in

@@ -10,6 +10,7 @@ use borrow.Author.Tests.{le-leb, lt-ltb}
 use lib.ListN.{length, take, drop, replicate, length-map}
 use lib.Seq.{sets, sets-eq, take_at}
 use lib.Pow.{low, high}
+use Rattle.std.specs.Prelude.{Ok}
 use Rattle.words.specs.Set.{set_of, odd}
 use Rattle.words.specs.Calls.{inserted}
 use Rattle.rows.specs.Row.{Row}
@@ -17,21 +18,20 @@ use Rattle.rows.specs.Flat.{width_of, atoms_of, mask_of, unpack}
 use Rattle.rows.specs.declared.Source.{Source}
 use Rattle.hull.specs.Table.{Pattern, allowed}
 use Rattle.hull.specs.Equations.{pivots_from, equations, through, hull_from, hull_of}
-use Rattle.hull.specs.Propose.{limit, table_words, local, told, proposal_of}
+use Rattle.hull.specs.Propose.{limit, local, told, proposal_of}
 use Rattle.hull.specs.declared.Hull.{Hull}
-use Rattle.hull.specs.declared.Proposal.{Proposal}
 use Rattle.hull.specs.declared.LocalEquation.{LocalEquation}
 use Rattle.hull.proofs.Exact.{rank_free}
 use Rattle.hull.proofs.Spanned.{length_found}
-use Rattle.hull.proofs.Told.{fit}
 use Rattle.echelon.specs.Eliminate.{words_of, constants_of}
 use Rattle.embed.specs.Embed.{Rising, spread, row_over}
 use Rattle.embed.specs.Parts.{table, rows_of}
 use Rattle.embed.specs.Written as embed
 use Rattle.embed.specs.Written.{marked, row_words, names_within, writable, written_words, written_constants}
 use Rattle.embed.proofs.Named.{atoms_marked}
-use Rattle.format.specs.Format.{atom_at, k_at, table_atoms, table_word_at, table_at}
+use Rattle.format.specs.Format.{atom_at, k_at, table_atoms, table_at}
 use Rattle.format.proofs.Listing.{list_length}
+use Rattle.format.proofs.Tables.{table_told}
 use Rattle.records.specs.Promises.{AllBelow}
 use Rattle.load.specs.Steps.{inserted_all, Room, Loaded}
 use Rattle.load.proofs.Inserted.{wide, all_words}
@@ -120,7 +120,7 @@ few_rows k words h = few_from k (allowed k words) h
 
 module _ (file : List ℕ) (n o at : ℕ) (ws cs : List ℕ) (few : k_at file o ≤ limit) (rising : Rising 0 n (table_atoms file o))
     (room : Room (width_of n) (rows_of n (table (table_atoms file o) (table_at file o))) ws cs at) (h : Hull)
-    (is : h ≡ (proposal_of limit (k_at file o) (table_at file o)).hull) where
+    (is : proposal_of limit (k_at file o) (table_at file o) ≡ Ok h) where
   abbrev w : ℕ
   w = width_of n
 
@@ -139,10 +139,10 @@ module _ (file : List ℕ) (n o at : ℕ) (ws cs : List ℕ) (few : k_at file o 
   abbrev first : Source
   first = record { 0 = at }
 
-  told_is : h ≡ (told limit (hull_of (length names) (table_at file o))).hull
+  told_is : h ≡ told limit (hull_of (length names) (table_at file o))
   told_is =
-      is ∙ ap (λ (p : Proposal). p.hull) (fit (k_at file o) (table_at file o) few (list_length (table_word_at file o) 0 (table_words (k_at file o))))
-      ∙ ap (λ (k : ℕ). (told limit (hull_of k (table_at file o))).hull) (sym (list_length (atom_at file o) 0 (k_at file o)))
+      table_told file o few h is
+      ∙ ap (λ (k : ℕ). told limit (hull_of k (table_at file o))) (sym (list_length (atom_at file o) 0 (k_at file o)))
 
   pub count_is : h.count ≡ length over
   count_is = ap (λ (x : Hull). x.count) told_is ∙ sym (length-map rs (row_over n names))

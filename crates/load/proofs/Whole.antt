@@ -1,34 +1,36 @@
 -- A whole file: its parts, and the ends of `load`.
 use Prim.Native.Nat.{ℕ, ◌+◌, ◌*◌, ◌≤◌, ◌<◌}
-use mathlib.Core.Path.{◌≡◌, refl, sym, ap, ap₂, subst, ◌∙◌}
+use mathlib.Core.Path.{◌≡◌, sym, ap, ap₂, ◌∙◌}
 use mathlib.Core.List.{List}
 use mathlib.Core.Bool.{Bool, true, false, cond, ◌||◌}
 use native.Mathlib.Nat.{zero-add}
-use borrow.Author.Tests.{eq-eqb, ne_eqb, lt-ltb, le-ltb}
+use borrow.Author.Tests.{lt-ltb, le-ltb}
 use lib.ListN.{length}
-use lib.Dec.{eqb, ltb}
+use lib.Dec.{ltb}
+use Rattle.std.proofs.Common.{Result, Ok, Err}
 use Rattle.rows.specs.Row.{Row}
 use Rattle.rows.specs.Flat.{width_of}
-use Rattle.fit.specs.Rows.{limit, short}
+use Rattle.fit.specs.Rows.{short}
 use Rattle.fit.proofs.Among.{or_right}
 use Rattle.embed.specs.Parts.{all_rows}
 use Rattle.format.specs.Starts.{starts}
+use Rattle.record.specs.declared.Fault.{Fault}
 use Rattle.records.specs.Check.{check_of}
-use Rattle.records.specs.Promises.{RecordsFit}
 use Rattle.records.specs.declared.Checked.{Checked}
-use Rattle.records.proofs.Whole.{file_fit, file_within, rows_counted}
-use Rattle.load.specs.Parts.{parts_from}
-use Rattle.load.specs.Load.{Outcome, outcome, filled, too_short, load_of}
+use Rattle.records.proofs.Whole.{file_fit, rows_counted}
+use Rattle.load.specs.Parts.{parts_of}
+use Rattle.load.specs.Load.{outcome, filled, loaded, load_of}
 use Rattle.load.specs.Promises.{PartsFit, PartsCounted}
 use Rattle.load.specs.Steps.{Room, Loaded}
+use Rattle.load.specs.declared.LoadError.TheVariants.{Unfit, Short}
 use Rattle.load.proofs.Loading.{all_loaded}
 use Rattle.load.proofs.Handed.{all_fit, all_counted}
 
 pub parts_fit : PartsFit
-parts_fit file e = all_fit file (check_of file).atoms (starts file 0) (file_fit file e)
+parts_fit file c e = all_fit file c.atoms (starts file 0) (file_fit file c e)
 
 pub parts_counted : PartsCounted
-parts_counted file e = all_counted file (check_of file).atoms (starts file 0) ∙ sym (rows_counted file e)
+parts_counted file c e = all_counted file c.atoms (starts file 0) ∙ sym (rows_counted file c e)
 
 -- ---- the memory lent
 
@@ -44,55 +46,35 @@ module _ (n m : ℕ) (ws cs : List ℕ) where
 
 -- ---- the ends of `load`
 
-abbrev pub Taken : List ℕ → List ℕ → Checked → Type 0
-Taken ws cs c = (c.number ≡ 0) × (c.rows * width_of c.atoms ≤ length ws) × (c.rows ≤ length cs)
-
-pub load_within : (file : List ℕ) (c : Checked) → c ≡ check_of file → c.number ≡ 0 → (c.atoms ≤ limit) × (c.rows ≤ limit)
-load_within file c is = subst (λ (x : Checked). x.number ≡ 0 → (x.atoms ≤ limit) × (x.rows ≤ limit)) (sym is) (file_within file)
-
-module _ (file ws cs : List ℕ) (c : Checked) (is : c ≡ check_of file) where
-  abbrev n : ℕ
-  n = c.atoms
-
-  abbrev m : ℕ
-  m = c.rows
-
-  -- what `load_of` is by its two tests
-  abbrev by : Bool → Bool → Outcome
-  by fit less = cond fit (cond less (outcome too_short ws cs) (filled file ws cs)) (outcome (check_of file) ws cs)
-
-  load_by : (fit less : Bool) → eqb c.number 0 ≡ fit → short n m ws cs ≡ less → load_of file ws cs ≡ by fit less
+module _ (file ws cs : List ℕ) where
+  pub load_unfit : (fault : Fault) → Err fault ≡ check_of file → outcome (Err (Unfit fault)) ws cs ≡ load_of file ws cs
   unfolding load_of
-  load_by fit less e f =
-      ap₂ by (ap (λ (x : Checked). eqb x.number 0) (sym is) ∙ e) (ap (λ (x : Checked). short x.atoms x.rows ws cs) (sym is) ∙ f)
+  load_unfit fault e = ap (λ (r : Result Checked Fault). loaded file r ws cs) e
 
-  pub load_unfit : (c.number ≡ 0 → ⊥) → outcome c ws cs ≡ load_of file ws cs
-  load_unfit z = ap (λ (x : Checked). outcome x ws cs) is ∙ sym (load_by false (short n m ws cs) (ne_eqb _ _ z) refl)
+  module _ (c : Checked) (is : Ok c ≡ check_of file) where
+    -- what `load_of` is by its test
+    by : (less : Bool) → short c.atoms c.rows ws cs ≡ less → cond less (outcome (Err Short) ws cs) (filled file c ws cs) ≡ load_of file ws cs
+    unfolding load_of
+    by less e =
+        ap (λ (t : Bool). cond t (outcome (Err Short) ws cs) (filled file c ws cs)) (sym e) ∙ ap (λ (r : Result Checked Fault). loaded file r ws cs) is
 
-  pub load_short : c.number ≡ 0 → short n m ws cs ≡ true → outcome too_short ws cs ≡ load_of file ws cs
-  load_short z f = sym (load_by true true (eq-eqb _ _ z) f)
+    pub load_short : short c.atoms c.rows ws cs ≡ true → outcome (Err Short) ws cs ≡ load_of file ws cs
+    load_short e = by true e
 
-  pub load_fit : c.number ≡ 0 → short n m ws cs ≡ false → filled file ws cs ≡ load_of file ws cs
-  load_fit z f = sym (load_by true false (eq-eqb _ _ z) f)
+    pub load_fit : short c.atoms c.rows ws cs ≡ false → filled file c ws cs ≡ load_of file ws cs
+    load_fit e = by false e
 
-  abbrev all : Checked → List Row
-  all x = all_rows x.atoms (parts_from file x.atoms (starts file 0))
+    abbrev all : List Row
+    all = all_rows c.atoms (parts_of file c.atoms)
 
-  pub load_ready : Taken ws cs c → RecordsFit file n (starts file 0) × Room (width_of n) (all c) ws cs 0
-  load_ready =
-      subst (λ (x : Checked). Taken ws cs x → RecordsFit file x.atoms (starts file 0) × Room (width_of x.atoms) (all x) ws cs 0) (sym is)
-      (λ t.
-      let count : 0 + length (all (check_of file)) ≡ (check_of file).rows = zero-add _ ∙ parts_counted file t.0 in (
-        file_fit file t.0,
-        record { words = rw count t.1; constants = rw count t.2 },
-      ))
+    count : 0 + length all ≡ c.rows
+    count = zero-add _ ∙ parts_counted file c (sym is)
 
-  pub load_done : Taken ws cs c → (ws' cs' : List ℕ) (next : ℕ) → Loaded (width_of n) (all c) ws cs 0 ws' cs' next → outcome c ws' cs' ≡ load_of file ws cs
-  load_done t ws' cs' next so = filling t (load_ready t).1 so ∙ load_fit t.0 (enough n m ws cs t.1 t.2)
-    where
-      filling : Taken ws cs c → Room (width_of n) (all c) ws cs 0 → Loaded (width_of n) (all c) ws cs 0 ws' cs' next → outcome c ws' cs' ≡ filled file ws cs
-      filling =
-          subst (λ (x : Checked). Taken ws cs x → Room (width_of x.atoms) (all x) ws cs 0 → Loaded (width_of x.atoms) (all x) ws cs 0 ws' cs' next → outcome x ws' cs' ≡ filled file ws cs) (sym is)
-          (λ u room done.
-          let both = all_loaded (width_of (check_of file).atoms) (check_of file).rows (all (check_of file)) ws cs ws' cs' next (parts_counted file u.0) room done in
-          ap₂ (outcome (check_of file)) both.0 both.1)
+    module _ (words : c.rows * width_of c.atoms ≤ length ws) (constants : c.rows ≤ length cs) where
+      pub load_room : Room (width_of c.atoms) all ws cs 0
+      load_room = record { words = rw count words; constants = rw count constants }
+
+      pub load_done : {ws' cs' : List ℕ} {next : ℕ} → Loaded (width_of c.atoms) all ws cs 0 ws' cs' next → outcome (Ok c) ws' cs' ≡ load_of file ws cs
+      load_done {ws'} {cs'} {next} done =
+          let both = all_loaded (width_of c.atoms) c.rows all ws cs ws' cs' next (parts_counted file c (sym is)) load_room done in
+          ap₂ (outcome (Ok c)) both.0 both.1 ∙ load_fit (enough c.atoms c.rows ws cs words constants)

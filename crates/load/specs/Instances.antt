@@ -1,9 +1,11 @@
 -- Two small files, what they hand in, and what `load` leaves.
-use Rattle.std.specs.Prelude.{ℕ, ◌≡◌, List, [], ◌∷◌, ◌++◌, true, false, replicate}
+use Rattle.std.specs.Prelude.{ℕ, ◌≡◌, List, [], ◌∷◌, ◌++◌, true, false, replicate, Result, Ok, Err}
 use Rattle.embed.specs.Parts.{row, table}
 use Rattle.records.specs.declared.Checked.{Checked}
 use Rattle.load.specs.Parts.{parts_of}
-use Rattle.load.specs.Load.{outcome, too_short, load_of}
+use Rattle.load.specs.Load.{outcome, load_of}
+use Rattle.load.specs.declared.LoadError.{LoadError}
+use Rattle.load.specs.declared.LoadError.TheVariants.{Short}
 
 -- Document 01, "A file and its lines".
 abbrev pub worked : List ℕ
@@ -24,18 +26,18 @@ worked =
 abbrev pub twice : List ℕ
 twice = 4 ∷ 0 ∷ 1 ∷ 0 ∷ 2 ∷ 0 ∷ 9 ∷ 0 ∷ 2 ∷ 0 ∷ 1 ∷ 1 ∷ 0 ∷ 1 ∷ 0 ∷ 0 ∷ 0 ∷ []
 
-abbrev pub taken : ℕ → ℕ → Checked
-taken n m = record { number = 0; offset = 0; atoms = n; rows = m }
+abbrev pub taken : ℕ → ℕ → Result Checked LoadError
+taken n m = Ok (record { atoms = n; rows = m })
 
 -- {0,1}=1, {1,2}=0 and a table; its equation is {0,2}=1. A word and a byte past the rows stand, and where memory is short all of it does.
 abbrev pub Instances : Type 0
 Instances =
-    (parts_of worked
+    (parts_of worked 3
     ≡ row (record { atoms = true ∷ true ∷ false ∷ []; constant = true })
     ∷ row (record { atoms = false ∷ true ∷ true ∷ []; constant = false })
     ∷ table (0 ∷ 2 ∷ []) (9 ∷ 0 ∷ [])
     ∷ [])
     × (load_of worked (77 ∷ 77 ∷ 77 ∷ 77 ∷ []) (7 ∷ 7 ∷ 7 ∷ 7 ∷ []) ≡ outcome (taken 3 3) (3 ∷ 6 ∷ 5 ∷ 77 ∷ []) (1 ∷ 0 ∷ 1 ∷ 7 ∷ []))
-    × (load_of worked (77 ∷ 77 ∷ []) (7 ∷ 7 ∷ 7 ∷ []) ≡ outcome too_short (77 ∷ 77 ∷ []) (7 ∷ 7 ∷ 7 ∷ []))
-    × (parts_of twice ≡ row (record { atoms = true ∷ true ∷ []; constant = true }) ∷ [])
+    × (load_of worked (77 ∷ 77 ∷ []) (7 ∷ 7 ∷ 7 ∷ []) ≡ outcome (Err Short) (77 ∷ 77 ∷ []) (7 ∷ 7 ∷ 7 ∷ []))
+    × (parts_of twice 2 ≡ row (record { atoms = true ∷ true ∷ []; constant = true }) ∷ [])
     × (load_of twice (77 ∷ []) (7 ∷ []) ≡ outcome (taken 2 1) (3 ∷ []) (1 ∷ []))

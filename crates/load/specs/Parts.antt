@@ -5,7 +5,6 @@ use Rattle.embed.specs.Parts.{Part, row, table}
 use Rattle.format.specs.Bytes.{list_from}
 use Rattle.format.specs.Format.{kind_at, constant_at, row_atoms, table_atoms, table_at}
 use Rattle.format.specs.Starts.{starts}
-use Rattle.records.specs.Check.{check_of}
 
 abbrev pub among : ℕ → List ℕ → Bool
 among a [] = false
@@ -29,6 +28,6 @@ unfoldable pub parts_from : List ℕ → ℕ → List ℕ → List Part
 parts_from file n [] = []
 parts_from file n (o ∷ os) = parts_at file n o ++ parts_from file n os
 
--- Those of all records.
-abbrev pub parts_of : List ℕ → List Part
-parts_of file = parts_from file (check_of file).atoms (starts file 0)
+-- Those of all records of a file of n atoms.
+abbrev pub parts_of : List ℕ → ℕ → List Part
+parts_of file n = parts_from file n (starts file 0)

@@ -1,154 +1,140 @@
 // Loading a file: the whole file is checked, then its rows and tables are written as rows into lent memory.
 #![tactic(auto)]
 
-ghost use Rattle.std.specs.Prelude.{◌≡◌, [], ◌∷◌, ◌++◌, ◌+◌, ◌≤◌, length, take, drop, replicate};
+ghost use Rattle.std.specs.Prelude.{◌≡◌, [], ◌∷◌, ◌≤◌, length, replicate};
 ghost use Rattle.hull.specs.Propose.{limit};
-ghost use Rattle.rows.specs.Flat.{width_of};
 ghost use Rattle.embed.specs.Embed.{Rising};
 ghost use Rattle.embed.specs.Parts.{table, rows_of, all_rows};
 ghost use Rattle.format.specs.Format.{constant_at, row_atoms, k_at, table_atoms, table_at};
 ghost use Rattle.format.specs.Starts.{starts};
 ghost use Rattle.records.specs.Promises.{AllBelow, RecordFit, RecordsFit};
-ghost use Rattle.load.specs.Parts.{row_in, parts_at, parts_from};
-ghost use Rattle.load.specs.Load.{outcome, too_short, load_of};
-ghost use Rattle.load.specs.Steps.{inserted_all, Room, Loaded};
+ghost use Rattle.load.specs.Parts.{row_in, parts_at, parts_of};
+ghost use Rattle.load.specs.Load.{outcome, load_of};
+ghost use Rattle.load.specs.Steps.{inserted_all, RoomFor, Adds};
+ghost use Rattle.load.specs.declared.LoadError.TheVariants.{Unfit};
 
+use format::{Kind, Record, Records};
+use record::Fault;
 use records::Checked;
 use rows::Source;
 
 pub mod promises;
 
-// Inserts the atoms that a row's record names.
-fn insert_atoms(file: &[u8], o: usize, row: &mut [u64])
-    ensures { row.new ≡ inserted_all (row_atoms file.now o) row.old }
-{
-    let count = format::atom_count(file, o);
-    let mut i = 0;
-    while i < count {
-        words::insert(row, format::short(file, o, 5 + i * 2));
-        i += 1;
+// Why a file is not loaded: it has a fault, or lent memory is too short.
+#[derive(Clone, Copy, Debug, PartialEq, Eq)]
+pub enum LoadError {
+    Unfit(Fault),
+    Short,
+}
+
+impl From<Fault> for LoadError {
+    ghost from_gives = { λ fault e. e ≡ Unfit fault };
+
+    fn from(fault: Fault) -> LoadError {
+        LoadError::Unfit(fault)
     }
 }
 
-// Writes a row's words from word `start` on.
-fn fill_row(file: &[u8], o: usize, rows: &mut [u64], start: usize, width: usize)
-    requires { start + width ≤ length rows.old }
-    ensures { rows.new ≡ take start rows.old ++ (inserted_all (row_atoms file.now o) (replicate width 0) ++ drop (start + width) rows.old) }
-{
-    let end = start + width;
-    words::clear(&mut rows[start..end]);
-    insert_atoms(file, o, &mut rows[start..end]);
+// Memory that is filled with rows over so many atoms, and the number of the next one.
+#[derive(Drop)]
+struct Filling<'a> {
+    atoms: usize,
+    words: &'a mut [u64],
+    constants: &'a mut [u8],
+    next: usize,
 }
 
-// Writes the row of a record of kind 2 as row `at`.
-fn load_row(
-    file: &[u8],
-    o: usize,
-    n: usize,
-    rows: &mut [u64],
-    constants: &mut [u8],
-    at: usize,
-) -> usize
-    requires { (constant_at file.now o ≤ 1) × AllBelow n (row_atoms file.now o) × Room (width_of n) (row_in file.now n o ∷ []) rows.old constants.old at }
-    ensures { Loaded (width_of n) (row_in file.now n o ∷ []) rows.old constants.old at rows.new constants.new result }
+// Writes a row's words: those of the atoms that its record names.
+fn fill_row(at: Record, row: &mut [u64])
+    ensures { row.new ≡ inserted_all (row_atoms at.entry.file.now at.entry.offset) (replicate (length row.old) 0) }
 {
-    let width = rows::width(n);
-    fill_row(file, o, rows, at * width, width);
-    constants[at] = format::byte(file, o, 4) as u8;
-    at + 1
-}
-
-// Writes the equations of a record of kind 3 from row `at` on.
-fn load_table(
-    file: &[u8],
-    o: usize,
-    n: usize,
-    rows: &mut [u64],
-    constants: &mut [u8],
-    at: usize,
-) -> usize
-    requires { (k_at file.now o ≤ limit) × Rising 0 n (table_atoms file.now o) × Room (width_of n) (rows_of n (table (table_atoms file.now o) (table_at file.now o))) rows.old constants.old at }
-    ensures { Loaded (width_of n) (rows_of n (table (table_atoms file.now o) (table_at file.now o))) rows.old constants.old at rows.new constants.new result }
-{
-    let mut atoms = [0usize; 8];
-    let k = format::byte(file, o, 4);
-    format::read_atoms(file, o, &mut atoms[..k]);
-    let proposal = format::table(file, o);
-    let hull = proposal.hull;
-    embed::write(
-        hull,
-        &atoms[..k],
-        rows::width(n),
-        rows,
-        constants,
-        Source(at),
-    );
-    at + hull.count
-}
-
-// Writes the rows of a record from row `at` on, and gives back the row after them.
-fn load_record(
-    file: &[u8],
-    o: usize,
-    n: usize,
-    rows: &mut [u64],
-    constants: &mut [u8],
-    at: usize,
-) -> usize
-    requires { RecordFit file.now n o × Room (width_of n) (all_rows n (parts_at file.now n o)) rows.old constants.old at }
-    ensures { Loaded (width_of n) (all_rows n (parts_at file.now n o)) rows.old constants.old at rows.new constants.new result }
-{
-    let kind = format::short(file, o, 2);
-    if kind == 2 {
-        return load_row(file, o, n, rows, constants, at);
-    }
-    if kind == 3 {
-        return load_table(file, o, n, rows, constants, at);
-    }
-    at
-}
-
-// Writes the rows of all records.
-fn load_records(file: &[u8], n: usize, rows: &mut [u64], constants: &mut [u8]) -> usize
-    requires { RecordsFit file.now n (starts file.now 0) × Room (width_of n) (all_rows n (parts_from file.now n (starts file.now 0))) rows.old constants.old 0 }
-    ensures { Loaded (width_of n) (all_rows n (parts_from file.now n (starts file.now 0))) rows.old constants.old 0 rows.new constants.new result }
-{
-    let mut at = 0;
-    let mut o = 0;
-    while o < file.len() {
-        at = load_record(file, o, n, rows, constants, at);
-        o = format::next(file, o);
-    }
-    at
-}
-
-fn too_short() -> Checked
-    ensures { result ≡ too_short }
-{
-    Checked {
-        number: 9,
-        offset: 0,
-        atoms: 0,
-        rows: 0,
+    words::clear(row);
+    for i in 0..at.atom_count() {
+        words::insert(row, usize::from(at.atom(usize::from(i))));
     }
 }
 
-// Checks a file and writes its rows. Where the file is unfit the answer is the check's, and where the memory is too short it is 9.
-pub fn load(file: &[u8], rows: &mut [u64], constants: &mut [u8]) -> Checked
+impl Filling<'_> {
+    // Writes the row of such a record.
+    fn put_row(&mut self, at: Record)
+        requires small { constant_at at.file.now at.offset ≤ 1 }
+        requires below { AllBelow self.old.atoms (row_atoms at.file.now at.offset) }
+        requires room { RoomFor self.old (row_in at.file.now self.old.atoms at.offset ∷ []) }
+        ensures { Adds self.old (row_in at.entry.file.now self.old.atoms at.entry.offset ∷ []) self.new }
+    {
+        let width = rows::width(self.atoms);
+        let start = self.next * width;
+        let end = start + width;
+        fill_row(at, &mut self.words[start..end]);
+        self.constants[self.next] = at.constant();
+        self.next += 1;
+    }
+
+    // Writes the equations of a table's record.
+    fn put_table(&mut self, at: Record)
+        requires few { k_at at.file.now at.offset ≤ limit }
+        requires rising { Rising 0 self.old.atoms (table_atoms at.file.now at.offset) }
+        requires room { RoomFor self.old (rows_of self.old.atoms (table (table_atoms at.file.now at.offset) (table_at at.file.now at.offset))) }
+        ensures { Adds self.old (rows_of self.old.atoms (table (table_atoms at.entry.file.now at.entry.offset) (table_at at.entry.file.now at.entry.offset))) self.new }
+    {
+        let mut atoms = [0usize; 8];
+        let names = &mut atoms[..usize::from(at.k())];
+        at.read_atoms(names);
+        let hull = at.table().unwrap();
+        embed::write(
+            hull,
+            names,
+            rows::width(self.atoms),
+            self.words,
+            self.constants,
+            Source(self.next),
+        );
+        self.next += hull.count;
+    }
+
+    // Writes the rows that a record hands in.
+    fn put_record(&mut self, at: Record)
+        requires fit { RecordFit at.file.now self.old.atoms at.offset }
+        requires room { RoomFor self.old (all_rows self.old.atoms (parts_at at.file.now self.old.atoms at.offset)) }
+        ensures { Adds self.old (all_rows self.old.atoms (parts_at at.entry.file.now self.old.atoms at.entry.offset)) self.new }
+    {
+        let Ok(kind) = at.kind() else {
+            return;
+        };
+        match kind {
+            Kind::Row => self.put_row(at),
+            Kind::Table => self.put_table(at),
+            _ => {}
+        }
+    }
+
+    // Writes the rows that a file's records hand in.
+    fn put_records(&mut self, file: &[u8])
+        requires fit { RecordsFit file.now self.old.atoms (starts file.now 0) }
+        requires room { RoomFor self.old (all_rows self.old.atoms (parts_of file.now self.old.atoms)) }
+        ensures { Adds self.old (all_rows self.old.atoms (parts_of file.now self.old.atoms)) self.new }
+    {
+        for record in Records::of(file) {
+            self.put_record(record);
+        }
+    }
+}
+
+// Checks a file and writes its rows. Where the file is unfit or the memory too short, all lent memory stands.
+pub fn load(file: &[u8], rows: &mut [u64], constants: &mut [u8]) -> Result<Checked, LoadError>
     ensures { outcome result rows.new constants.new ≡ load_of file.now rows.old constants.old }
 {
-    let checked = records::check(file);
-    if checked.number != 0 {
-        return checked;
+    let checked = records::check(file)?;
+    let count = checked.rows;
+    if rows.len() < count * rows::width(checked.atoms) || constants.len() < count {
+        return Err(LoadError::Short);
     }
-    let n = checked.atoms;
-    let m = checked.rows;
-    if rows.len() < m * rows::width(n) {
-        return too_short();
-    }
-    if constants.len() < m {
-        return too_short();
-    }
-    load_records(file, n, rows, constants);
-    checked
+    let mut filling = Filling {
+        atoms: checked.atoms,
+        words: rows,
+        constants,
+        next: 0,
+    };
+    filling.put_records(file);
+    Ok(checked)
 }

@@ -1,6 +1,6 @@
 -- Units written one after another: the turns of `collect_units`.
 use Prim.Native.Nat.{ℕ, suc, ◌+◌, ◌≤◌, ◌<◌}
-use mathlib.Core.Path.{◌≡◌, refl, sym, ap, ap₂, ◌∙◌}
+use mathlib.Core.Path.{◌≡◌, refl, sym, ap, ◌∙◌}
 use mathlib.Core.List.{List, [], ◌∷◌, ◌++◌, append-nil, map, map-append}
 use mathlib.Core.Bool.{Bool, true, false, cond}
 use native.Mathlib.Numerals.{add-one}
@@ -17,7 +17,8 @@ use Rattle.rows.specs.Flat.{width_of, row, row_at}
 use Rattle.echelon.specs.Forward.{low}
 use Rattle.parity.specs.Basis.{basis_of, units_of, unit_atoms_of, unit_values_of}
 use Rattle.parity.specs.Named.{Named}
-use Rattle.parity.specs.Noted.{Noted}
+use Rattle.parity.specs.Single.{unit_of}
+use Rattle.std.specs.Prelude.{Option, Some, None}
 use Rattle.parity.proofs.Ordinals.{basis_next}
 use Rattle.parity.proofs.Single.{size_row, low_row, value_row, units_snoc}
 
@@ -58,41 +59,63 @@ pub record Collected (n : ℕ) (ws cs ps atoms values atoms' values' : List ℕ)
   pub named : atoms' ≡ unit_atoms_of (basis_of n ws cs (take j ps)) ++ drop units atoms
   pub valued : values' ≡ unit_values_of (basis_of n ws cs (take j ps)) ++ drop units values
 
-pub collected_start : (n : ℕ) (ws cs ps atoms values : List ℕ) → Collected n ws cs ps atoms values atoms values 0 0
-collected_start n ws cs ps atoms values = record { few = omega arith; kept = refl; kept' = refl; number = refl; named = refl; valued = refl }
+module _ (n rank : ℕ) (ws cs ps atoms values atoms' values' : List ℕ) (units j : ℕ) (basis : Named n rank ws cs ps) (h : j < rank)
+    (room : rank ≤ length atoms) (room' : rank ≤ length values) (so : Collected n ws cs ps atoms values atoms' values' units j) where
+  abbrev x : ℕ
+  x = set_of (row (width_of n) ws (get_or ps j 0))
 
-module _ (n rank : ℕ) (ws cs ps atoms values atoms' values' : List ℕ) (units j : ℕ) (basis : Named n rank ws ps) (h : j < rank)
-    (room : rank ≤ length atoms) (room' : rank ≤ length values) (constant : get_or cs (get_or ps j 0) 0 < 2) (so : Collected n ws cs ps atoms values atoms' values' units j) where
-  next_units : units_of (basis_of n ws cs (take (j + 1) ps))
-      ≡ units_of (basis_of n ws cs (take j ps)) ++ cond (eqb (ones (set_of (row (width_of n) ws (get_or ps j 0)))) 1) (row_at n (width_of n) ws cs (get_or ps j 0) ∷ []) []
+  abbrev value : ℕ
+  value = get_or cs (get_or ps j 0) 0
+
+  abbrev r : Row
+  r = row_at n (width_of n) ws cs (get_or ps j 0)
+
+  next_units : units_of (basis_of n ws cs (take (j + 1) ps)) ≡ units_of (basis_of n ws cs (take j ps)) ++ cond (eqb (ones x) 1) (r ∷ []) []
   next_units =
       let rs = basis_of n ws cs (take j ps) in
-      let r = row_at n (width_of n) ws cs (get_or ps j 0) in
       let there : j < length ps = omega (arith, basis.entries) in
       ap units_of (basis_next n ws cs ps j there) ∙ units_snoc rs r
-      ∙ ap (λ (k : ℕ). units_of rs ++ cond (eqb k 1) (r ∷ []) []) (size_row n (width_of n) ws cs (get_or ps j 0) (basis.fit j h))
+      ∙ ap (λ (k : ℕ). units_of rs ++ cond (eqb k 1) (r ∷ []) []) (size_row n (width_of n) ws cs (get_or ps j 0) (basis.legible j h).below)
 
-  pub collected_next : (atoms'' values'' : List ℕ) (units' : ℕ)
-      → Noted (set_of (row (width_of n) ws (get_or ps j 0))) (get_or cs (get_or ps j 0) 0) units atoms' values' atoms'' values'' units'
-      → Collected n ws cs ps atoms values atoms'' values'' units' (j + 1)
-  collected_next atoms'' values'' units' noted =
+  next : let t = eqb (ones x) 1 in
+      Collected n ws cs ps atoms values (cond t (set atoms' units (sets.low x)) atoms') (cond t (set values' units value) values') (cond t (units + 1) units) (j + 1)
+  next =
       let us = units_of (basis_of n ws cs (take j ps)) in
-      let r = row_at n (width_of n) ws cs (get_or ps j 0) in
-      let x = set_of (row (width_of n) ws (get_or ps j 0)) in
       let t = eqb (ones x) 1 in
       let free : units < length atoms = omega (arith, so.few) in
       let free' : units < length values = omega (arith, so.few) in
-      let entry : t ≡ true → sets.low x ≡ low r.atoms = λ e. sym (low_row n (width_of n) ws cs (get_or ps j 0) (eqb-true (ones x) 1 e) (basis.fit j h)) in
-      let value : t ≡ true → get_or cs (get_or ps j 0) 0 ≡ cond r.constant 1 0 = λ e. sym (value_row n (width_of n) ws cs (get_or ps j 0) constant) in
+      let entry : t ≡ true → sets.low x ≡ low r.atoms = λ e. sym (low_row n (width_of n) ws cs (get_or ps j 0) (eqb-true (ones x) 1 e) (basis.legible j h).below) in
+      let constant : t ≡ true → value ≡ cond r.constant 1 0 = λ e. sym (value_row n (width_of n) ws cs (get_or ps j 0) (basis.legible j h).constant) in
       record {
-        few = omega (arith, noted.number, few_next t units j so.few);
-        kept = ap length noted.atom ∙ length_written t atoms' units (sets.low x) ∙ so.kept;
-        kept' = ap length noted.constant ∙ length_written t values' units (get_or cs (get_or ps j 0) 0) ∙ so.kept';
-        number = noted.number ∙ number_next t us r units so.number ∙ ap length (sym next_units);
+        few = few_next t units j so.few;
+        kept = length_written t atoms' units (sets.low x) ∙ so.kept;
+        kept' = length_written t values' units value ∙ so.kept';
+        number = number_next t us r units so.number ∙ ap length (sym next_units);
         named =
-            noted.atom ∙ written (λ (q : Row). low q.atoms) r us atoms units (sets.low x) so.number free t entry atoms' so.named
-            ∙ ap₂ (λ (l : List Row) (k : ℕ). map (λ (q : Row). low q.atoms) l ++ drop k atoms) (sym next_units) (sym noted.number);
+            written (λ (q : Row). low q.atoms) r us atoms units (sets.low x) so.number free t entry atoms' so.named
+            ∙ ap (λ (l : List Row). map (λ (q : Row). low q.atoms) l ++ drop (cond t (units + 1) units) atoms) (sym next_units);
         valued =
-            noted.constant ∙ written (λ (q : Row). cond q.constant 1 0) r us values units (get_or cs (get_or ps j 0) 0) so.number free' t value values' so.valued
-            ∙ ap₂ (λ (l : List Row) (k : ℕ). map (λ (q : Row). cond q.constant 1 0) l ++ drop k values) (sym next_units) (sym noted.number);
+            written (λ (q : Row). cond q.constant 1 0) r us values units value so.number free' t constant values' so.valued
+            ∙ ap (λ (l : List Row). map (λ (q : Row). cond q.constant 1 0) l ++ drop (cond t (units + 1) units) values) (sym next_units);
       }
+
+  pub collected_unit : (atom constant : ℕ) → ◌≡◌ {A = Option (ℕ × ℕ)} (Some (atom, constant)) (unit_of x value)
+      → Collected n ws cs ps atoms values (set atoms' units atom) (set values' units constant) (units + 1) (j + 1)
+  collected_unit atom constant is = go (eqb (ones x) 1) is next
+    where
+      go : (t : Bool) → ◌≡◌ {A = Option (ℕ × ℕ)} (Some (atom, constant)) (cond t (Some (sets.low x, value)) None)
+          → Collected n ws cs ps atoms values (cond t (set atoms' units (sets.low x)) atoms') (cond t (set values' units value) values') (cond t (units + 1) units) (j + 1)
+          → Collected n ws cs ps atoms values (set atoms' units atom) (set values' units constant) (units + 1) (j + 1)
+      go true e all =
+          let pair : ◌≡◌ {A = ℕ × ℕ} (atom, constant) (sets.low x, value) = cc in
+          rw (ap (λ (p : ℕ × ℕ). p.0) pair, ap (λ (p : ℕ × ℕ). p.1) pair) all
+      go false e all = let z : ◌≡◌ {A = ℕ} 0 1 = cc in absurd (omega arith)
+
+  pub collected_other : ◌≡◌ {A = Option (ℕ × ℕ)} None (unit_of x value) → Collected n ws cs ps atoms values atoms' values' units (j + 1)
+  collected_other is = go (eqb (ones x) 1) is next
+    where
+      go : (t : Bool) → ◌≡◌ {A = Option (ℕ × ℕ)} None (cond t (Some (sets.low x, value)) None)
+          → Collected n ws cs ps atoms values (cond t (set atoms' units (sets.low x)) atoms') (cond t (set values' units value) values') (cond t (units + 1) units) (j + 1)
+          → Collected n ws cs ps atoms values atoms' values' units (j + 1)
+      go true e all = let z : ◌≡◌ {A = ℕ} 0 1 = cc in absurd (omega arith)
+      go false e all = all

@@ -1,5 +1,5 @@
 -- What `prepare` leaves where it does not refuse, as the state of elimination: its basis rows are those of `eliminated`.
-use Prim.Native.Nat.{ℕ, zero, suc, ◌*◌, ◌≤◌, ◌<◌}
+use Prim.Native.Nat.{ℕ, suc, ◌*◌, ◌≤◌, ◌<◌}
 use mathlib.Core.Path.{◌≡◌, refl, sym, ap, ap₂, ◌∙◌, subst}
 use mathlib.Core.List.{List, [], ◌∷◌, map}
 use mathlib.Core.Bool.{Bool, true, false, true≢false, false≢true}
@@ -8,7 +8,7 @@ use lib.ListN.{length, get_or, take, drop, get_or-append}
 use lib.Seq.{take-append_seam}
 use Rattle.rows.specs.Row.{Row, Assignment, meets_all}
 use Rattle.rows.specs.Flat.{width_of, row_at}
-use Rattle.fit.specs.Refusal.{or_refused}
+use Rattle.echelon.specs.declared.Eliminated.{Eliminated}
 use Rattle.echelon.specs.Forward.{State, eliminated}
 use Rattle.echelon.specs.Eliminate.{Outcome, written}
 use Rattle.echelon.specs.Promises.{Sized, Lowest, numbered, basis_rows}
@@ -19,11 +19,10 @@ use Rattle.echelon.proofs.Sums.{left_are_sums}
 use Rattle.echelon.proofs.Written.{numbered_at}
 use Rattle.echelon.proofs.Upto.{rows_sized, rows_length}
 use Rattle.parity.specs.Basis.{basis_of}
-use Rattle.parity.specs.Prepare.{Lent, prepare_unfit, followed, refused, prepare_of}
+use Rattle.parity.specs.Prepare.{Lent, followed, prepared}
 use Rattle.parity.specs.declared.Prepared.{Prepared}
 use Rattle.parity.specs.Promises.{handed_in, Keeps, Counts, Pivots, Sums, PrepareKeeps, PrepareCounts, PreparePivots, PrepareSums}
 use Rattle.parity.proofs.Usable.{rank_few}
-use Rattle.parity.proofs.Whole.{Room, room}
 
 map_same : {B : Type 0} (f g : ℕ → B) (ss : List ℕ) → ((i : ℕ) → i < length ss → f (get_or ss i 0) ≡ g (get_or ss i 0)) → map f ss ≡ map g ss
 map_same f g [] h = refl
@@ -33,24 +32,11 @@ module _ (n m : ℕ) (l : Lent) where
   abbrev pub st : State
   st = eliminated n (handed_in n m l)
 
-  abbrev pub left : Outcome
+  abbrev pub left : Outcome Eliminated
   left = written (width_of n) st l.rows l.constants l.basis
 
   sized : Sized n (handed_in n m l)
   sized = rows_sized n (width_of n) l.rows l.constants m
-
-  pub record Unrefused : Type 0 where
-    pub fits : Room n m l
-    pub is : prepare_of n m l ≡ followed st.refuted n m l left
-
-  -- a number of 0 is not a refusal
-  pub unrefused : (prepare_of n m l).0.number ≡ 0 → Unrefused
-  unfolding prepare_of
-  unrefused = go (prepare_unfit n m l) refl
-    where
-      go : (k : ℕ) → k ≡ prepare_unfit n m l → (or_refused k (followed st.refuted n m l left) (refused l)).0.number ≡ 0 → Unrefused
-      go zero e h = record { fits = room n m l zero e refl; is = ap (λ (j : ℕ). or_refused j (followed st.refuted n m l left) (refused l)) (sym e) }
-      go (suc k) e h = let z : ⊥ = omega arith in absurd z
 
   -- ---- the rows left, by their numbers and by the basis
 
@@ -76,9 +62,9 @@ module _ (n m : ℕ) (l : Lent) where
       (λ i h. row_is (get_or st.basis i 0) (basis_below n (handed_in n m l) i h))
 
   -- a fact of what was prepared, from the two ways it can end
-  pub of_both : (T : Prepared × Lent → Type 0) → ((b : Bool) → st.refuted ≡ b → T (followed b n m l left)) → (prepare_of n m l).0.number ≡ 0
-      → T (prepare_of n m l)
-  of_both T both h = subst T (sym (unrefused h).is) (both st.refuted refl)
+  pub of_both : (T : Prepared × Lent → Type 0) → ((b : Bool) → st.refuted ≡ b → T (followed b n m l left)) → T (prepared n m l)
+  unfolding prepared
+  of_both T both = both st.refuted refl
 
 -- ---- the promises
 
@@ -124,13 +110,13 @@ module _ (n m : ℕ) (l : Lent) where
       (sum.0, row_is n m l s all ∙ sum.1)
 
 pub prepare_keeps : PrepareKeeps
-prepare_keeps n m l x = of_both n m l (Keeps n (handed_in n m l) x) (keeps n m l x)
+prepare_keeps n m l x fit = of_both n m l (Keeps n (handed_in n m l) x) (keeps n m l x)
 
 pub prepare_counts : PrepareCounts
-prepare_counts n m l = of_both n m l (Counts n m (handed_in n m l)) (counts n m l)
+prepare_counts n m l fit = of_both n m l (Counts n m (handed_in n m l)) (counts n m l)
 
 pub prepare_pivots : PreparePivots
-prepare_pivots n m l = of_both n m l (Pivots n m) (pivots n m l)
+prepare_pivots n m l fit = of_both n m l (Pivots n m) (pivots n m l)
 
 pub prepare_sums : PrepareSums
-prepare_sums n m l = of_both n m l (Sums n m (handed_in n m l)) (sums n m l)
+prepare_sums n m l fit = of_both n m l (Sums n m (handed_in n m l)) (sums n m l)

@@ -48,12 +48,12 @@ upto_start n stride ws ps index is fit = record {
   counted = λ cs. sym (incidences_none n);
 }
 
-module _ (n rank stride : ℕ) (ws ps index : List ℕ) (total j : ℕ) (named : Named n rank ws ps) (h : j < rank) (so : Upto n stride ws ps index total j) where
+module _ (n rank stride : ℕ) (ws cs₀ ps index : List ℕ) (total j : ℕ) (named : Named n rank ws cs₀ ps) (h : j < rank) (so : Upto n stride ws ps index total j) where
   pub ordinal_reaches : Reaches stride (set_of (row (width_of n) ws (get_or ps j 0))) (length index)
-  ordinal_reaches a e = rw so.kept (earlier stride n a (has_below n (set_of (row (width_of n) ws (get_or ps j 0))) a (named.fit j h) e))
+  ordinal_reaches a e = rw so.kept (earlier stride n a (has_below n (set_of (row (width_of n) ws (get_or ps j 0))) a (named.legible j h).below e))
 
   pub ordinal_few : ones (set_of (row (width_of n) ws (get_or ps j 0))) ≤ 512
-  ordinal_few = omega (arith, ones-le n (set_of (row (width_of n) ws (get_or ps j 0))) (named.fit j h), named.atoms)
+  ordinal_few = omega (arith, ones-le n (set_of (row (width_of n) ws (get_or ps j 0))) (named.legible j h).below, (named.legible j h).atoms)
 
   pub upto_next : (index' : List ℕ) → length index' ≡ length index → ((i : ℕ) → get_or index' i 0 < 2 ^ 64)
       → Entered stride (2 ^ j) (set_of (row (width_of n) ws (get_or ps j 0))) index index'
@@ -79,7 +79,7 @@ module _ (n rank stride : ℕ) (ws ps index : List ℕ) (total j : ℕ) (named :
         counted = λ cs.
             let rs = basis_of n ws cs (take j ps) in
             let r = row_at n (width_of n) ws cs (get_or ps j 0) in
-            ap₂ ◌+◌ (so.counted cs) (is ∙ ones_count n x (named.fit j h))
+            ap₂ ◌+◌ (so.counted cs) (is ∙ ones_count n x (named.legible j h).below)
             ∙ sym (incidences_snoc rs r x n (λ a l. row_has n (width_of n) ws cs (get_or ps j 0) a l))
             ∙ ap (λ (l : List Row). incidences_of l n) (sym (basis_next n ws cs ps j there));
       }

@@ -11,7 +11,8 @@ use lib.Seq.{drop_at, drop-drop, get_or-drop}
 use lib.Dec.{ltb}
 use Rattle.words.specs.Set.{set_of}
 use Rattle.rows.specs.Flat.{width_of, row}
-use Rattle.fit.specs.Rows.{rows_unfit}
+use Rattle.std.specs.Prelude.{Ok}
+use Rattle.fit.specs.Rows.{rows_check}
 use Rattle.fit.proofs.Fitting.{Fit, joined_none, fit_joined}
 use Rattle.index.specs.Index.{column_width}
 use Rattle.echelon.specs.Eliminate.{words_of, constants_of}
@@ -23,8 +24,8 @@ use Rattle.echelon.proofs.Upto.{rows_sized, rows_length}
 use Rattle.parity.specs.Prepare.{Lent, followed}
 use Rattle.parity.specs.Promises.{handed_in, Fits, PrepareFits}
 use Rattle.parity.proofs.Usable.{rank_few}
-use Rattle.parity.proofs.Whole.{Room, index_holds}
-use Rattle.parity.proofs.Leaving.{st, left, entry_is, basis_is, unrefused, of_both}
+use Rattle.parity.proofs.Whole.{Room, room, index_holds}
+use Rattle.parity.proofs.Leaving.{st, left, entry_is, basis_is, of_both}
 use Rattle.parity.proofs.Telling.{columns_long, columns_below}
 
 -- ---- a list whose first k places are written: no shorter, and from k on as it was
@@ -81,11 +82,11 @@ module _ (n m : ℕ) (l : Lent) (room : Room n m l) where
     small = λ r h. small r h (ltb r done) refl;
   }
 
-  rows_taken : rows_unfit n m (left n m l).rows (left n m l).constants ≡ 0
+  rows_taken : rows_check n m (left n m l).rows (left n m l).constants ≡ Ok tt
   rows_taken =
       let ws = (left n m l).rows in
       let cs = (left n m l).constants in
-      joined_none n m ws cs false (rows_unfit n m ws cs) refl refl ∙ fit_joined n m ws cs false rows_fit refl
+      joined_none n m ws cs ∙ fit_joined n m ws cs false rows_fit refl
 
   basis_long : min m n ≤ length (left n m l).basis
   basis_long = le_trans room.basis (over_length (st n m l).basis l.basis (length (st n m l).basis) refl)
@@ -129,4 +130,4 @@ module _ (n m : ℕ) (l : Lent) (room : Room n m l) where
 -- ---- the promise
 
 pub prepare_fits : PrepareFits
-prepare_fits n m l number = of_both n m l (Fits n m) (fits n m l (unrefused n m l number).fits) number
+prepare_fits n m l fit = of_both n m l (Fits n m) (fits n m l (room n m l fit))

@@ -1,30 +1,26 @@
 -- Rows of one atom: how the code tells them, their atom and their value, and the units of one basis row more.
 use Prim.Native.Nat.{ℕ, zero, suc, ◌+◌, ◌*◌, ◌/◌, ◌%◌, ◌^◌, ◌≤◌, ◌<◌}
-use mathlib.Core.Path.{◌≡◌, refl, sym, ap, ap₂, ◌∙◌}
+use mathlib.Core.Path.{◌≡◌, refl, sym, ap, ◌∙◌}
 use mathlib.Core.List.{List, [], ◌∷◌, ◌++◌}
-use mathlib.Core.Bool.{Bool, true, false, cond, ◌&&◌}
+use mathlib.Core.Bool.{Bool, true, false, cond}
 use native.Mathlib.Nat.{pow-suc, mul_assoc, mod-lt, zero-lt-suc}
 use native.Mathlib.Omega.{arith}
-use borrow.Author.Tests.{lt-ltb, le-leb, ne_eqb}
+use borrow.Author.Tests.{lt-ltb, ne_eqb, eq-eqb}
 use lib.ListN.{length, get_or}
 use lib.Bits.{and_self}
 use lib.Count.{ones}
 use lib.Dec.{eqb}
+use Rattle.std.specs.Prelude.{None, Ok, Err}
 use Rattle.words.specs.Set.{set_of, low}
-use Rattle.words.specs.Calls.{count_of, narrow}
-use Rattle.words.specs.declared.Counted.{Counted}
-use Rattle.words.specs.declared.Counted.TheVariants as counted
+use Rattle.words.specs.declared.Unfit.TheVariants.{TooWide}
+use Rattle.words.specs.Calls.{count_of, first_of, narrow}
 use Rattle.words.proofs.Lowest.{low_form, low_is}
 use Rattle.rows.specs.Row.{Row}
 use Rattle.rows.specs.Flat.{row, atoms_of, row_at}
-use Rattle.rows.specs.Calls.{lowest_of, within}
-use Rattle.rows.specs.declared.Atom.{Atom}
-use Rattle.rows.specs.declared.Source.{Source}
-use Rattle.rows.specs.declared.Lowest.{Lowest}
-use Rattle.rows.specs.declared.Lowest.TheVariants as lowest
 use Rattle.rows.proofs.Digits.{atoms_overlap}
 use Rattle.index.specs.Index.{size}
 use Rattle.parity.specs.Basis.{units_of}
+use Rattle.parity.specs.Single.{single_of}
 use Rattle.echelon.specs.Forward as forward
 
 -- ---- what the calls answer
@@ -32,25 +28,9 @@ use Rattle.echelon.specs.Forward as forward
 narrow_few : (w : ℕ) → w ≤ 8 → narrow w ≡ true
 narrow_few w h = lt-ltb (w * 64) (2 ^ 64) (omega arith)
 
-module _ (ws : List ℕ) (h : length ws ≤ 8) (c : Counted) (is : c ≡ count_of ws) where
-  are : c ≡ counted.Are (ones (set_of ws))
-  unfolding count_of
-  are = is ∙ ap (λ (t : Bool). cond t (counted.Are (ones (set_of ws))) counted.TooWide) (narrow_few (length ws) h)
-
-  pub count_is : (k : ℕ) → c ≡ counted.Are k → k ≡ ones (set_of ws)
-  count_is k told = let same : counted.Are k ≡ counted.Are (ones (set_of ws)) = sym told ∙ are in cc
-
-  pub count_equal : c ≡ counted.Unequal → ⊥
-  count_equal told =
-      let same : counted.Unequal ≡ counted.Are (ones (set_of ws)) = sym told ∙ are in
-      let no : ◌≡◌ {A = ℕ} 0 1 = cc in
-      omega arith
-
-  pub count_narrow : c ≡ counted.TooWide → ⊥
-  count_narrow told =
-      let same : counted.TooWide ≡ counted.Are (ones (set_of ws)) = sym told ∙ are in
-      let no : ◌≡◌ {A = ℕ} 0 1 = cc in
-      omega arith
+pub counted_few : (ws : List ℕ) → length ws ≤ 8 → count_of ws ≡ Ok (ones (set_of ws))
+unfolding count_of
+counted_few ws h = ap (λ (t : Bool). cond t (Ok (ones (set_of ws))) (Err TooWide)) (narrow_few (length ws) h)
 
 -- a set of one atom is not empty
 pub single_some : (x : ℕ) → ones x ≡ 1 → 0 < x
@@ -58,32 +38,20 @@ unfolding ones
 single_some zero e = omega arith
 single_some (suc x) e = omega arith
 
-module _ (w : ℕ) (ws : List ℕ) (s : Source) (few : w ≤ 8) (room : s.0 * w + w ≤ length ws) (one : ones (set_of (row w ws s.0)) ≡ 1) (c : Lowest) (is : c ≡ lowest_of w ws s) where
-  at : c ≡ lowest.At (record { 0 = low (set_of (row w ws s.0)) })
-  unfolding lowest_of
-  at =
-      let x = set_of (row w ws s.0) in
-      let there : (within w ws s && narrow w) ≡ true = ap₂ ◌&&◌ (le-leb (s.0 * w + w) (length ws) room) (narrow_few w few) in
-      let some : eqb x 0 ≡ false = ne_eqb x 0 (λ e. omega (arith, single_some x one)) in
-      is ∙ ap₂ (λ (t e : Bool). cond t (cond e lowest.Empty (lowest.At (record { 0 = low x }))) lowest.Outside) there some
+module _ (ws : List ℕ) (few : length ws ≤ 8) (n : ℕ) (count : count_of ws ≡ Ok n) where
+  counted : n ≡ ones (set_of ws)
+  counted = let same : Ok n ≡ Ok (ones (set_of ws)) = sym count ∙ counted_few ws few in cc
 
-  pub lowest_is : (a : Atom) → c ≡ lowest.At a → a.0 ≡ low (set_of (row w ws s.0))
-  lowest_is a told =
-      let same : lowest.At a ≡ lowest.At (record { 0 = low (set_of (row w ws s.0)) }) = sym told ∙ at in
-      let e : ◌≡◌ {A = Atom} a (record { 0 = low (set_of (row w ws s.0)) }) = cc in
-      ap (λ (b : Atom). b.0) e
+  pub single_none : (n ≡ 1 → ⊥) → None ≡ single_of (set_of ws)
+  single_none ne = rw (ne_eqb (ones (set_of ws)) 1 (λ e. ne (counted ∙ e))) refl
 
-  pub lowest_some : c ≡ lowest.Empty → ⊥
-  lowest_some told =
-      let same : lowest.Empty ≡ lowest.At (record { 0 = low (set_of (row w ws s.0)) }) = sym told ∙ at in
-      let no : ◌≡◌ {A = ℕ} 0 1 = cc in
-      omega arith
-
-  pub lowest_inside : c ≡ lowest.Outside → ⊥
-  lowest_inside told =
-      let same : lowest.Outside ≡ lowest.At (record { 0 = low (set_of (row w ws s.0)) }) = sym told ∙ at in
-      let no : ◌≡◌ {A = ℕ} 0 1 = cc in
-      omega arith
+  pub single_first : n ≡ 1 → first_of ws ≡ Ok (single_of (set_of ws))
+  unfolding first_of
+  single_first e =
+      let one : ones (set_of ws) ≡ 1 = sym counted ∙ e in
+      let some : eqb (set_of ws) 0 ≡ false = ne_eqb (set_of ws) 0 (λ z. omega (arith, single_some (set_of ws) one)) in
+      let is : eqb (ones (set_of ws)) 1 ≡ true = eq-eqb (ones (set_of ws)) 1 one in
+      rw (narrow_few (length ws) few, some, is) refl
 
 -- ---- the row's atoms as a list
 

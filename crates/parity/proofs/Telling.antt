@@ -2,7 +2,7 @@
 use Prim.Native.Nat.{ℕ, zero, suc, ◌*◌, ◌^◌, ◌≤◌, ◌<◌, min}
 use mathlib.Core.Path.{◌≡◌, refl, sym, ap, ◌∙◌}
 use mathlib.Core.List.{List, [], ◌∷◌, ◌++◌, map, append_assoc}
-use mathlib.Core.Bool.{Bool, true, false, cond, ◌&&◌, true≢false}
+use mathlib.Core.Bool.{Bool, true, false, ◌&&◌, true≢false}
 use native.Mathlib.Nat.{zero-mul, suc-mul, lt_of_lt_of_le}
 use native.Mathlib.Omega.{arith}
 use borrow.Author.Tests.{ltb-true, ltb-false, eqb-true, eqb-false, le-ltb, lt-leb}
@@ -18,15 +18,17 @@ use Rattle.rows.specs.declared.Atom.{Atom}
 use Rattle.rows.proofs.Rowwise.{has_above, mask_has}
 use Rattle.rows.proofs.Digits.{mask_lt, packed_unpack}
 use Rattle.index.specs.Index.{column_width, column_of, index_of}
-use Rattle.index.specs.Column.{over_rank, column_unfit, wanted_column}
+use Rattle.index.specs.Column.{over_rank, column_check, wanted_column}
+use Rattle.std.specs.Prelude.{Ok}
+use Rattle.refusal.specs.Refusal.{left as left_of}
 use Rattle.index.proofs.Overrank.{over_none}
 use Rattle.echelon.proofs.Written.{unpack_length}
 use Rattle.parity.specs.Basis.{basis_of}
 use Rattle.parity.specs.Prepare.{followed}
 use Rattle.parity.specs.Promises.{Tells, ColumnTells}
-use Rattle.parity.proofs.Whole.{Room}
+use Rattle.parity.proofs.Whole.{Room, room}
 use Rattle.parity.proofs.Usable.{rank_few}
-use Rattle.parity.proofs.Leaving.{st, left, unrefused, of_both}
+use Rattle.parity.proofs.Leaving.{st, left, of_both}
 
 -- ---- the columns one after another
 
@@ -79,15 +81,15 @@ module _ (n rank : ℕ) (rs : List Row) (ranked : length rs ≡ rank) (rest : Li
   pub columns_below : over_rank rank (column_width rank) written n ≡ false
   columns_below = over_none rank (column_width rank) written n column_below
 
-  pub column_taken : n ≤ 512 → rank ≤ 512 → (a : Atom) → a.0 < n → column_unfit written n rank a ≡ 0
-  unfolding column_unfit
+  pub column_taken : n ≤ 512 → rank ≤ 512 → (a : Atom) → a.0 < n → column_check written n rank a ≡ Ok tt
+  unfolding column_check
   column_taken atoms ranks a h =
       simp (le-ltb 512 n atoms, le-ltb 512 rank ranks, le-ltb _ _ columns_long, columns_below, lt-leb n a.0 h)
 
   module _ (atoms : n ≤ 512) (ranks : rank ≤ 512) (a : Atom) (h : a.0 < n) where
     column_is : wanted_column written n rank a ≡ row (column_width rank) written a.0
     unfolding wanted_column
-    column_is = ap (λ (k : ℕ). cond (eqb k 0) (row (column_width rank) written a.0) []) (column_taken atoms ranks a h)
+    column_is = ap (λ check. left_of check (row (column_width rank) written a.0) []) (column_taken atoms ranks a h)
 
     pub column_length : length (wanted_column written n rank a) ≡ column_width rank
     column_length = ap length (column_is ∙ index_row (column_width rank) rs n a.0 h rest) ∙ unpack_length 64 (column_width rank) _
@@ -110,10 +112,10 @@ below {j} {x} {y} rank same = go (ltb j rank) refl
 -- ---- the promise
 
 pub column_tells : ColumnTells
-column_tells n m l a number h = of_both n m l (Tells n a) tells number
+column_tells n m l a fit h = of_both n m l (Tells n a) tells
   where
     fits : Room n m l
-    fits = (unrefused n m l number).fits
+    fits = room n m l fit
 
     tells : (b : Bool) → (st n m l).refuted ≡ b → Tells n a (followed b n m l (left n m l))
     tells true e = λ f. absurd (true≢false f)

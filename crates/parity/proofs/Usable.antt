@@ -36,22 +36,21 @@ module _ (n m : ℕ) (ws cs ps : List ℕ) (atoms : n ≤ 512) (room : min m n �
   entry : (j : ℕ) → j < length st.basis → get_or (st.basis ++ drop (length st.basis) ps) j 0 < length st.rows
   entry j h = rw (get_or-append st.basis (drop (length st.basis) ps) 0 j h) (basis_below n (rows_to n (width_of n) ws cs m) j h)
 
-  pub left_named : Named n (length st.basis) (words_of w st.rows ++ drop (length st.rows * w) ws) (st.basis ++ drop (length st.basis) ps)
+  pub left_named : Named n (length st.basis) (words_of w st.rows ++ drop (length st.rows * w) ws) (constants_of st.rows ++ drop (length st.rows) cs)
+      (st.basis ++ drop (length st.basis) ps)
   left_named = record {
-    atoms = atoms;
     ranked = omega (arith, rank_few n m ws cs);
     entries = simp length-append (omega arith);
-    within = λ j h.
+    legible = λ j h.
         let e = entry j h in
+        let s = get_or (st.basis ++ drop (length st.basis) ps) j 0 in
         let long = length-append (words_of w st.rows) (drop (length st.rows * w) ws) in
-        omega (arith, row_room (get_or (st.basis ++ drop (length st.basis) ps) j 0) (length st.rows) w e, words_length w st.rows);
-    fit = λ j h. fit_words n w st.rows sized wide (drop (length st.rows * w) ws) _ (entry j h);
+        let long' = length-append (constants_of st.rows) (drop (length st.rows) cs) in
+        record {
+          atoms = atoms;
+          words = omega (arith, row_room s (length st.rows) w e, words_length w st.rows);
+          constants = omega (arith, constants_length st.rows);
+          below = fit_words n w st.rows sized wide (drop (length st.rows * w) ws) s e;
+          constant = fit_constants st.rows (drop (length st.rows) cs) s e;
+        };
   }
-
-  pub left_constants : (j : ℕ) → j < length st.basis
-      → (get_or (st.basis ++ drop (length st.basis) ps) j 0 < length (constants_of st.rows ++ drop (length st.rows) cs))
-      × (get_or (constants_of st.rows ++ drop (length st.rows) cs) (get_or (st.basis ++ drop (length st.basis) ps) j 0) 0 < 2)
-  left_constants j h =
-      let e = entry j h in
-      let long = length-append (constants_of st.rows) (drop (length st.rows) cs) in
-      (omega (arith, constants_length st.rows), fit_constants st.rows (drop (length st.rows) cs) _ e)

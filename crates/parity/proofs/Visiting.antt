@@ -1,56 +1,91 @@
 -- The atoms of a word, and the words of a row, visited one after another: the turns of `enter_word` and `enter_row`.
 use Prim.Native.Nat.{ℕ, ◌+◌, ◌-◌, ◌*◌, ◌^◌, ◌≤◌, ◌<◌}
-use mathlib.Core.Path.{◌≡◌, sym, ap, ap₂, ◌∙◌}
+use mathlib.Core.Path.{◌≡◌, refl, sym, ap, ap₂, ◌∙◌}
+use mathlib.Core.Bool.{Bool, true, false, cond}
+use borrow.Author.Tests.{eqb-true, eqb-false}
+use lib.Dec.{eqb}
 use mathlib.Core.List.{List}
-use native.Mathlib.Nat.{mul_comm, mul_assoc, mul-sub, mul-one, add-mul, suc-mul, zero-mul, mod-eq_of_lt, mul-le-mul_right, le-mul_of_pos_right}
+use native.Mathlib.Nat.{add_comm, mul_comm, mul_assoc, mul-sub, mul-one, add-mul, suc-mul, zero-mul, mod-eq_of_lt, mul-le-mul_right, le-mul_of_pos_right}
 use native.Mathlib.Numerals.{add-one}
 use native.Mathlib.Omega.{arith}
 use lib.ListN.{length, get_or, drop, set}
-use lib.Bits.{bit_and, bit_or, or_shifted}
-use lib.Count.{ones, ones_cat, ones-le, count_trailing_zeros}
+use lib.Bits.{bit_or, or_shifted}
+use lib.Count.{ones, ones_cat, ones-le}
 use lib.Pow.{pow_pos, pow-add, shl_lt}
+use Rattle.std.specs.Prelude.{Option, Some, None}
 use Rattle.words.specs.Set.{set_of, low}
 use Rattle.words.proofs.Packed.{left_cons, left_none}
-use Rattle.words.proofs.Lowest.{low_word, low_words, clear_low}
+use Rattle.words.specs.Calls.{Visits}
+use Rattle.words.specs.declared.SetBits.{SetBits}
+use Rattle.words.proofs.Lowest.{low_form, low_is}
 use Rattle.parity.specs.Entered.{Reaches, Entered}
 use Rattle.parity.proofs.Marking.{Left, left_start, left_end, lowest_room, left_bit, part_reaches, left_part}
 
 -- ---- the atoms of a word whose first atom is s
 
-module _ (k w s : ℕ) (some : 0 < w) (fits : w < 2 ^ k) where
-  word_low : low (w * 2 ^ s) ≡ s + count_trailing_zeros k w
+module _ (w s : ℕ) (some : 0 < w) where
+  word_low : low (w * 2 ^ s) ≡ s + low w
   word_low =
-      let alone : w ≡ 0 * 2 ^ k + w = omega arith in
-      ap (λ (n : ℕ). low (n * 2 ^ s)) alone ∙ low_words k 0 w s some fits
+      let f = low_form w some in
+      low_is (w * 2 ^ s) (s + low w) (record {
+        half = f.half;
+        is =
+            ap (λ (n : ℕ). n * 2 ^ s) f.is ∙ mul_assoc (f.half * 2 + 1) (2 ^ low w) (2 ^ s)
+            ∙ ap (λ (n : ℕ). (f.half * 2 + 1) * n) (sym (pow-add 2 (low w) s) ∙ ap (λ (n : ℕ). 2 ^ n) (add_comm (low w) s));
+      })
 
-  word_next : bit_and w (w - 1) * 2 ^ s ≡ w * 2 ^ s - 2 ^ (s + count_trailing_zeros k w)
-  word_next =
-      let t = count_trailing_zeros k w in
-      ap (λ (n : ℕ). n * 2 ^ s) (clear_low w some ∙ ap (λ (n : ℕ). w - 2 ^ n) (low_word k w some fits)) ∙ mul_comm (w - 2 ^ t) (2 ^ s) ∙ mul-sub (2 ^ s) w (2 ^ t)
-      ∙ ap₂ ◌-◌ (mul_comm (2 ^ s) w) (sym (pow-add 2 s t))
+  word_next : (w - 2 ^ low w) * 2 ^ s ≡ w * 2 ^ s - 2 ^ (s + low w)
+  word_next = mul_comm (w - 2 ^ low w) (2 ^ s) ∙ mul-sub (2 ^ s) w (2 ^ low w) ∙ ap₂ ◌-◌ (mul_comm (2 ^ s) w) (sym (pow-add 2 s (low w)))
+
+  positive : 0 < w * 2 ^ s
+  positive = omega (arith, pow_pos s, mul-le-mul_right (2 ^ s) some)
 
 -- what a turn of `enter_word` needs: the lowest atom's place lies within the index, and is small
 pub record Within (stride atom : ℕ) (index : List ℕ) : Type 0 where
   pub room : atom * stride + stride ≤ length index
   pub small : atom ≤ atom * stride
 
-positive : (s w : ℕ) → 0 < w → 0 < w * 2 ^ s
-positive s w some = omega (arith, pow_pos s, mul-le-mul_right (2 ^ s) some)
+-- what a visit of the bits left gives: the lowest, and the others; or there are none
+step_from : SetBits → Bool → Option ℕ × SetBits
+step_from bits t = cond t (None, bits) (Some (low bits.remaining), record { remaining = bits.remaining - 2 ^ low bits.remaining })
 
-pub bit_within : (stride mark x : ℕ) (index : List ℕ) (s w : ℕ) (index' : List ℕ) → 0 < stride → Left stride mark x index (w * 2 ^ s) index'
-    → 0 < w → w < 2 ^ 64 → Within stride (s + count_trailing_zeros 64 w) index'
-bit_within stride mark x index s w index' wide so some small = record {
-  room = lowest_room stride mark x index (w * 2 ^ s) index' so (s + count_trailing_zeros 64 w) (positive s w some) (word_low 64 w s some small);
-  small = le-mul_of_pos_right (s + count_trailing_zeros 64 w) wide;
-}
+visit_some : (bits bits' : SetBits) (atom : ℕ) → Visits bits (Some atom) bits'
+    → (0 < bits.remaining) × (atom ≡ low bits.remaining) × (bits'.remaining ≡ bits.remaining - 2 ^ low bits.remaining)
+unfolding step_from
+visit_some bits bits' atom is = go (eqb bits.remaining 0) refl is
+  where
+    go : (t : Bool) → eqb bits.remaining 0 ≡ t → (Some atom, bits') ≡ step_from bits t
+        → (0 < bits.remaining) × (atom ≡ low bits.remaining) × (bits'.remaining ≡ bits.remaining - 2 ^ low bits.remaining)
+    go true e is = let none : Some atom ≡ None = ap (λ (q : Option ℕ × SetBits). q.0) is in let z : ◌≡◌ {A = ℕ} 0 1 = cc in absurd (omega arith)
+    go false e is =
+        let ne = eqb-false bits.remaining 0 e in
+        let first : Some atom ≡ Some (low bits.remaining) = ap (λ (q : Option ℕ × SetBits). q.0) is in
+        (omega arith, cc, ap (λ (q : Option ℕ × SetBits). q.1.remaining) is)
 
-pub bit_next : (stride bit c x : ℕ) (index : List ℕ) (s w : ℕ) (index' : List ℕ) → c < stride → bit < 2 ^ 64
-    → Left stride (bit * 2 ^ (c * 64)) x index (w * 2 ^ s) index' → 0 < w → w < 2 ^ 64
-    → Left stride (bit * 2 ^ (c * 64)) x index (bit_and w (w - 1) * 2 ^ s)
-    (set index' ((s + count_trailing_zeros 64 w) * stride + c) (bit_or (get_or index' ((s + count_trailing_zeros 64 w) * stride + c) 0) bit))
-bit_next stride bit c x index s w index' h fits so some small =
-    left_bit stride bit c x index (w * 2 ^ s) index' h fits so (s + count_trailing_zeros 64 w) (positive s w some) (word_low 64 w s some small)
-    (bit_and w (w - 1) * 2 ^ s) (word_next 64 w s some small)
+pub visit_none : (bits bits' : SetBits) → Visits bits None bits' → bits.remaining ≡ 0
+unfolding step_from
+visit_none bits bits' is = go (eqb bits.remaining 0) refl is
+  where
+    go : (t : Bool) → eqb bits.remaining 0 ≡ t → (None, bits') ≡ step_from bits t → bits.remaining ≡ 0
+    go true e is = eqb-true bits.remaining 0 e
+    go false e is = let some : None ≡ Some (low bits.remaining) = ap (λ (q : Option ℕ × SetBits). q.0) is in let z : ◌≡◌ {A = ℕ} 0 1 = cc in absurd (omega arith)
+
+module _ (stride bit c x : ℕ) (index : List ℕ) (s : ℕ) (bits bits' : SetBits) (atom : ℕ) (index' : List ℕ) (wide : c < stride)
+    (so : Left stride (bit * 2 ^ (c * 64)) x index (bits.remaining * 2 ^ s) index') (visit : Visits bits (Some atom) bits') where
+  pub bit_within : Within stride (s + atom) index'
+  bit_within =
+      let v = visit_some bits bits' atom visit in
+      rw v.1 record {
+        room = lowest_room stride (bit * 2 ^ (c * 64)) x index (bits.remaining * 2 ^ s) index' so (s + low bits.remaining) (positive bits.remaining s v.0) (word_low bits.remaining s v.0);
+        small = le-mul_of_pos_right (s + low bits.remaining) (omega arith);
+      }
+
+  pub bit_next : bit < 2 ^ 64
+      → Left stride (bit * 2 ^ (c * 64)) x index (bits'.remaining * 2 ^ s) (set index' ((s + atom) * stride + c) (bit_or (get_or index' ((s + atom) * stride + c) 0) bit))
+  bit_next fits =
+      let v = visit_some bits bits' atom visit in
+      rw v.1 (left_bit stride bit c x index (bits.remaining * 2 ^ s) index' wide fits so (s + low bits.remaining) (positive bits.remaining s v.0)
+      (word_low bits.remaining s v.0) (bits'.remaining * 2 ^ s) (ap (λ (n : ℕ). n * 2 ^ s) v.2 ∙ word_next bits.remaining s v.0))
 
 -- ---- the words of a row
 

@@ -4,4 +4,4 @@ pub mod Prepare
 pub mod Promises
 pub mod Named
 pub mod Entered
-pub mod Noted
+pub mod Single

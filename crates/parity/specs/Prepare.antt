@@ -1,10 +1,13 @@
 -- What `prepare` answers and leaves in the memory lent to it, for fit and unfit input.
-use Rattle.std.specs.Prelude.{ℕ, ◌*◌, min, List, [], ◌∷◌, ◌++◌, Bool, true, false, ◌||◌, length, take, drop, ltb}
+use Rattle.std.specs.Prelude.{ℕ, ◌*◌, min, List, [], ◌∷◌, ◌++◌, Bool, true, false, ◌||◌, length, take, drop, ltb, Result}
 use Rattle.rows.specs.Flat.{width_of}
-use Rattle.fit.specs.Refusal.{refusal, or_refused}
+use Rattle.refusal.specs.Refusal.{checked, answered, left}
+use Rattle.refusal.specs.declared.Refusal.{Refusal}
+use Rattle.refusal.specs.declared.Refusal.TheVariants.{Short, Overfull, Stray}
 use Rattle.fit.specs.Rows.{overfull, short, strays}
 use Rattle.echelon.specs.Forward.{eliminated}
 use Rattle.echelon.specs.Eliminate.{Outcome, rows_to, written}
+use Rattle.echelon.specs.declared.Eliminated.{Eliminated}
 use Rattle.index.specs.Index.{column_width, index_of, incidences_of}
 use Rattle.parity.specs.Basis.{basis_of, units_of, unit_atoms_of, unit_values_of}
 use Rattle.parity.specs.declared.Prepared.{Prepared}
@@ -29,18 +32,17 @@ lists_short n m basis atoms values index =
     ltb basis (min m n) || (ltb atoms (min m n) || (ltb values (min m n) || ltb index (n * column_width (min m n))))
 
 -- The checks in their order: 10, 9, 11.
-unfoldable pub prepare_unfit : ℕ → ℕ → Lent → ℕ
-prepare_unfit n m l =
-    refusal (
-    (10, overfull n m) ∷
-    (9, short n m l.rows l.constants || lists_short n m (length l.basis) (length l.unit_atoms) (length l.unit_values) (length l.index)) ∷
-    (11, strays n (width_of n) l.rows l.constants m) ∷
+unfoldable pub prepare_check : ℕ → ℕ → Lent → Result Unit Refusal
+prepare_check n m l =
+    checked (
+    (Overfull, overfull n m) ∷
+    (Short, short n m l.rows l.constants || lists_short n m (length l.basis) (length l.unit_atoms) (length l.unit_values) (length l.index)) ∷
+    (Stray, strays n (width_of n) l.rows l.constants m) ∷
     [])
 
--- A result by its fields: number, atoms, rows, rank, refuted, additions, units, incidences.
-abbrev pub told_of : ℕ → ℕ → ℕ → ℕ → Bool → ℕ → ℕ → ℕ → Prepared
-told_of number atoms rows rank refuted additions units incidences = record {
-  number = number;
+-- A result by its fields: atoms, rows, rank, refuted, additions, units, incidences.
+abbrev pub told_of : ℕ → ℕ → ℕ → Bool → ℕ → ℕ → ℕ → Prepared
+told_of atoms rows rank refuted additions units incidences = record {
   system = record { atoms = atoms; rows = rows; rank = rank; refuted = refuted };
   additions = additions;
   units = units;
@@ -50,9 +52,9 @@ told_of number atoms rows rank refuted additions units incidences = record {
 -- "A row left empty with constant 1 ends preparation as refuted: basis and counts so far stand, units and index are not written and their
 -- counts are 0. Otherwise units are the basis rows of one atom, in basis order, and the index follows." And "words and entries past those
 -- named are untouched".
-abbrev pub followed : Bool → ℕ → ℕ → Lent → Outcome → Prepared × Lent
+abbrev pub followed : Bool → ℕ → ℕ → Lent → Outcome Eliminated → Prepared × Lent
 followed true n m l o = (
-  told_of 0 n m o.result.rank true o.result.additions 0 0,
+  told_of n m o.result.rank true o.result.additions 0 0,
   lent o.rows o.constants o.basis l.unit_atoms l.unit_values l.index,
 )
 followed false n m l o =
@@ -60,17 +62,20 @@ followed false n m l o =
     let rs = basis_of n o.rows o.constants (take rank o.basis) in
     let units = length (units_of rs) in
     let width = column_width rank in (
-      told_of 0 n m rank false o.result.additions units (incidences_of rs n),
+      told_of n m rank false o.result.additions units (incidences_of rs n),
       lent o.rows o.constants o.basis (unit_atoms_of rs ++ drop units l.unit_atoms) (unit_values_of rs ++ drop units l.unit_values)
           (index_of width rs n ++ drop (n * width) l.index),
     )
 
--- "a refused call returns its number, 0 in every other field", and all lent memory stands.
-abbrev pub refused : Lent → ℕ → Prepared × Lent
-refused l number = (told_of number 0 0 0 false 0 0 0, l)
-
-unfoldable pub prepare_of : ℕ → ℕ → Lent → Prepared × Lent
-unfolding prepare_unfit
-prepare_of n m l =
+-- What preparation makes of fit input: the answer, and the memory as it leaves it.
+unfoldable pub prepared : ℕ → ℕ → Lent → Prepared × Lent
+prepared n m l =
     let st = eliminated n (rows_to n (width_of n) l.rows l.constants m) in
-    or_refused (prepare_unfit n m l) (followed st.refuted n m l (written (width_of n) st l.rows l.constants l.basis)) (refused l)
+    followed st.refuted n m l (written (width_of n) st l.rows l.constants l.basis)
+
+-- A refused call leaves all lent memory as it was.
+unfoldable pub prepare_of : ℕ → ℕ → Lent → Result Prepared Refusal × Lent
+prepare_of n m l =
+    let check = prepare_check n m l in
+    let p = prepared n m l in
+    (answered check p.0, left check p.1 l)

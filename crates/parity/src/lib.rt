@@ -2,13 +2,18 @@
 #![tactic(auto)]
 
 ghost use Rattle.std.specs.Prelude.{◌≡◌, ◌≤◌};
-ghost use Rattle.parity.specs.Prepare.{lent, lists_short, prepare_unfit, told_of, prepare_of};
+ghost use Rattle.parity.specs.Prepare.{lent, lists_short, prepare_check, prepare_of};
 
+pub use basis::Basis;
+use refusal::Refusal;
+
+mod basis;
 mod incidence;
 pub mod promises;
 mod units;
 
 // A system as preparation leaves it: how many atoms and rows there are, how many basis rows, and whether it was refuted.
+// (A flag in a plain record: C has it so.)
 #[repr(C)]
 #[derive(Clone, Copy)]
 pub struct System {
@@ -18,42 +23,13 @@ pub struct System {
     pub refuted: bool,
 }
 
-// What `prepare` answers: its number, and where that is 0 the system with the counts of preparation.
-#[repr(C)]
+// What `prepare` answers: the system, and the counts of preparation.
 #[derive(Clone, Copy)]
 pub struct Prepared {
-    pub number: usize,
     pub system: System,
     pub additions: usize,
     pub units: usize,
     pub incidences: usize,
-}
-
-// A result by its fields.
-fn told(
-    number: usize,
-    atoms: usize,
-    rows: usize,
-    rank: usize,
-    refuted: bool,
-    additions: usize,
-    units: usize,
-    incidences: usize,
-) -> Prepared
-    ensures { result ≡ told_of number atoms rows rank refuted additions units incidences }
-{
-    Prepared {
-        number: number,
-        system: System {
-            atoms: atoms,
-            rows: rows,
-            rank: rank,
-            refuted: refuted,
-        },
-        additions: additions,
-        units: units,
-        incidences: incidences,
-    }
 }
 
 // Whether the basis, the units or the index are too short, by their lengths.
@@ -61,21 +37,13 @@ fn lists_short(n: usize, m: usize, basis: usize, atoms: usize, values: usize, in
     requires { n ≤ 512 }
     ensures { result ≡ lists_short n m basis atoms values index }
 {
-    let least = fit::least(m, n);
-    if basis < least {
-        return true;
-    }
-    if atoms < least {
-        return true;
-    }
-    if values < least {
-        return true;
-    }
-    index < n * index::column_width(least)
+    let least = m.min(n);
+    basis < least || atoms < least || values < least || index < n * index::column_width(least)
 }
 
-// The number under which `prepare` refuses, or 0.
-fn unfit(
+// Whether what is lent is fit.
+#[tactic(auto, unfolding(crate::specs::Prepare::prepare_check, fit::specs::Rows::rows_check))]
+fn check(
     n: usize,
     m: usize,
     rows: &[u64],
@@ -84,12 +52,12 @@ fn unfit(
     unit_atoms: &[usize],
     unit_values: &[u8],
     index: &[u64],
-) -> usize
-    ensures { result ≡ prepare_unfit n m (lent rows.now constants.now basis.now unit_atoms.now unit_values.now index.now) }
+) -> Result<(), Refusal>
+    ensures { result ≡ prepare_check n m (lent rows.now constants.now basis.now unit_atoms.now unit_values.now index.now) }
 {
-    let number = fit::rows_number(n, m, rows, constants);
-    if number == 10 {
-        return 10;
+    let rows_fit = fit::check_rows(n, m, rows, constants);
+    if rows_fit == Err(Refusal::Overfull) {
+        return rows_fit;
     }
     if lists_short(
         n,
@@ -99,13 +67,14 @@ fn unfit(
         unit_values.len(),
         index.len(),
     ) {
-        return 9;
+        return Err(Refusal::Short);
     }
-    number
+    rows_fit
 }
 
 // Prepares m rows over n atoms in lent memory: reduces them in place, names the basis rows, and where the system is not refuted writes its
-// units and its index. "Words and entries past those named are untouched."
+// units and its index. "Words and entries past those named are untouched." The lists are lent one by one, as C lends them.
+#[tactic(auto, unfolding(crate::specs::Prepare::prepare_of))]
 pub fn prepare(
     n: usize,
     m: usize,
@@ -115,19 +84,38 @@ pub fn prepare(
     unit_atoms: &mut [usize],
     unit_values: &mut [u8],
     index: &mut [u64],
-) -> Prepared
+) -> Result<Prepared, Refusal>
     ensures { (result, lent rows.new constants.new basis.new unit_atoms.new unit_values.new index.new) ≡ prepare_of n m (lent rows.old constants.old basis.old unit_atoms.old unit_values.old index.old) }
 {
-    let number = unfit(n, m, rows, constants, basis, unit_atoms, unit_values, index);
-    if number != 0 {
-        return told(number, 0, 0, 0, false, 0, 0, 0);
-    }
-    let done = echelon::eliminate(n, m, rows, constants, basis);
-    let rank = done.rank;
+    check(n, m, rows, constants, basis, unit_atoms, unit_values, index)?;
+    let done = echelon::eliminate(n, m, rows, constants, basis)?;
+    let system = System {
+        atoms: n,
+        rows: m,
+        rank: done.rank,
+        refuted: done.refuted,
+    };
     if done.refuted {
-        return told(0, n, m, rank, true, done.additions, 0, 0);
+        return Ok(Prepared {
+            system,
+            additions: done.additions,
+            units: 0,
+            incidences: 0,
+        });
     }
-    let units = units::collect_units(n, rank, rows, constants, basis, unit_atoms, unit_values);
-    let incidences = incidence::build_index(n, rank, rows, basis, index);
-    told(0, n, m, rank, false, done.additions, units, incidences)
+    let left = Basis {
+        atoms: n,
+        rank: done.rank,
+        rows,
+        constants,
+        entries: basis,
+    };
+    let units = units::collect_units(&left, unit_atoms, unit_values);
+    let incidences = incidence::build_index(&left, index);
+    Ok(Prepared {
+        system,
+        additions: done.additions,
+        units,
+        incidences,
+    })
 }

@@ -2,7 +2,6 @@
 pub mod Meanings
 pub mod Undecided
 pub mod Pivoted
-pub mod Refusals
 pub mod Tallies
 pub mod Probing
 pub mod Counted

@@ -24,10 +24,12 @@ use Rattle.rows.proofs.Places.{row_length}
 use Rattle.rows.proofs.Rowwise.{constant_sum}
 use Rattle.echelon.specs.Steps.{put, OnlyRow}
 use Rattle.echelon.proofs.Replaced.{put_row, put_only, row_kept, constant_kept, at_kept}
-use Rattle.inspect.specs.Steps.{Legible}
+use Rattle.echelon.proofs.Whole.{row_room}
+use Rattle.parity.specs.Named.{Legible, Named}
 use Rattle.inspect.proofs.Readings.{atoms_and}
 use Rattle.probe.specs.Elimination.{substituted}
-use Rattle.probe.specs.Steps.{Masked, open_of, flipped_of, Opened}
+use Rattle.inspect.specs.Steps.{Masked}
+use Rattle.probe.specs.Steps.{Room, open_of, flipped_of, Opened}
 
 -- ---- one row
 
@@ -45,7 +47,13 @@ over i (x ∷ z) [] h e = let z : ⊥ = omega (arith, e) in absurd z
 over zero (x ∷ z) (y ∷ l) h e = refl
 over (suc i) (x ∷ z) (y ∷ l) h e = ap (λ (m : List ℕ). x ∷ m) (over i z l (omega arith) (omega (arith, e)))
 
-module _ (words held free left₀ : List ℕ) (same : length left₀ ≡ length words) (few : length words ≤ length free) (held-too : length words ≤ length held) where
+module _ (words held free left₀ : List ℕ) (short : length words ≤ 8) (same : length left₀ ≡ length words) (held_wide : length held ≡ 8) (free_wide : length free ≡ 8) where
+  in_free : length words ≤ length free
+  in_free = omega arith
+
+  in_held : length words ≤ length held
+  in_held = omega arith
+
   pub opening_start : Opening words held free left₀ left₀ 0 0
   unfolding ones
   opening_start = record { within = omega arith; long = same; is = refl; parity = omega arith }
@@ -57,41 +65,57 @@ module _ (words held free left₀ : List ℕ) (same : length left₀ ≡ length 
       within = omega arith;
       long = length-set left i _ ∙ o.long;
       is =
-          ap₂ (λ (l : List ℕ) (v : ℕ). set l i v) o.is (sym (common_at words free i few h))
-          ∙ over i (common words free) left₀ (omega (arith, common_length words free few)) (same ∙ sym (common_length words free few))
+          ap₂ (λ (l : List ℕ) (v : ℕ). set l i v) o.is (sym (common_at words free i in_free h))
+          ∙ over i (common words free) left₀ (omega (arith, common_length words free in_free)) (same ∙ sym (common_length words free in_free))
           ∙ ap (λ (k : ℕ). take k (common words free) ++ drop k left₀) (sym (add-one i));
-      parity = omega (arith, o.parity, ones_xor sum (bit_and (get_or words i 0) (get_or held i 0)), shared_cons 64 words held i h (omega arith) fits);
+      parity = omega (arith, o.parity, ones_xor sum (bit_and (get_or words i 0) (get_or held i 0)), shared_cons 64 words held i h (omega (arith, in_held)) fits);
     }
 
     pub opening_end : length words ≤ i → (left ≡ common words free) × (ones sum % 2 ≡ ones (bit_and (set_of words) (set_of held)) % 2)
     opening_end h =
         let all : i ≡ length left₀ = omega (arith, o.within, same) in (
           o.is
-              ∙ ap₂ ◌++◌ (take_all i (common words free) (omega (arith, common_length words free few))) (ap (λ (k : ℕ). drop k left₀) all ∙ drop-length left₀)
+              ∙ ap₂ ◌++◌ (take_all i (common words free) (omega (arith, common_length words free in_free))) (ap (λ (k : ℕ). drop k left₀) all ∙ drop-length left₀)
               ∙ append-nil (common words free),
           omega (arith, o.parity, shared_none 64 words held i h),
         )
 
 -- a row lent as a part of the words, and written as one
-pub part_row : (w s : ℕ) (ws : List ℕ) → take (s * w + w - s * w) (drop (s * w) ws) ≡ row w ws s
-part_row w s ws = ap (λ (k : ℕ). take k (drop (s * w) ws)) (add-sub_cancel_left (s * w) w)
+module _ (w s t : ℕ) (ws : List ℕ) where
+  abbrev part : List ℕ
+  part = take (s * w + w - s * w) (drop (s * w) ws)
 
-pub mid_row : (w t : ℕ) (ws r : List ℕ) → put_mid (t * w) (t * w + w - t * w) ws r ≡ put w t ws r
-unfolding put
-mid_row w t ws r =
-    ap (λ (l : List ℕ). take (t * w) ws ++ (r ++ l)) (drop-drop (t * w + w - t * w) (t * w) ws ∙ ap (λ (k : ℕ). drop (t * w + k) ws) (add-sub_cancel_left (t * w) w))
+  part_row : part ≡ row w ws s
+  part_row = ap (λ (k : ℕ). take k (drop (s * w) ws)) (add-sub_cancel_left (s * w) w)
+
+  mid_row : (left r : List ℕ) → put_mid (t * w) (t * w + w - t * w) left r ≡ put w t left r
+  unfolding put
+  mid_row left r =
+      ap (λ (l : List ℕ). take (t * w) left ++ (r ++ l)) (drop-drop (t * w + w - t * w) (t * w) left ∙ ap (λ (k : ℕ). drop (t * w + k) left) (add-sub_cancel_left (t * w) w))
+
+  pub words_put : (free left r : List ℕ) → r ≡ zip_with bit_and part free → put_mid (t * w) (t * w + w - t * w) left r ≡ put w t left (open_of w free ws s)
+  words_put free left r is = mid_row left r ∙ ap (put w t left) (is ∙ ap (λ (l : List ℕ). zip_with bit_and l free) part_row)
+
+  pub constant_put : (held cs cs' : List ℕ) (flips : ℕ) → flips ≡ ones (bit_and (set_of part) (set_of held)) % 2
+      → set cs' t (bit_xor (get_or cs s 0) flips) ≡ set cs' t (flipped_of w held ws cs s)
+  constant_put held cs cs' flips is =
+      ap (λ (k : ℕ). set cs' t (bit_xor (get_or cs s 0) k)) (is ∙ ap (λ (l : List ℕ). ones (bit_and (set_of l) (set_of held)) % 2) part_row)
 
 -- ---- row after row
 
-pub opened_start : (n : ℕ) (held free ws cs ps left cs' : List ℕ) → Opened n held free ws cs ps left cs' 0
-opened_start n held free ws cs ps left cs' = record {
-  fits = λ i h. let z : ⊥ = omega arith in absurd z;
-  small = λ i h. let z : ⊥ = omega arith in absurd z;
-  rows = λ p m i h. let z : ⊥ = omega arith in absurd z;
-}
+pub room_kept : (n rank : ℕ) (left cs left' cs' : List ℕ) → Room n rank left cs → length left' ≡ length left → length cs' ≡ length cs → Room n rank left' cs'
+room_kept n rank left cs left' cs' room words constants = record { words = omega (arith, room.words); constants = omega (arith, room.constants) }
 
-module _ (n : ℕ) (held free ws cs ps left cs' : List ℕ) (j : ℕ) (fit : Legible n ws cs (get_or ps j 0)) (eight : length free ≡ 8)
-    (room : j * width_of n + width_of n ≤ length left) (place : j < length cs') where
+module _ (n rank : ℕ) (held free ws cs ps left cs' : List ℕ) (j : ℕ) (named : Named n rank ws cs ps) (below : j < rank) (eight : length free ≡ 8) (memory : Room n rank left cs') where
+  fit : Legible n ws cs (get_or ps j 0)
+  fit = named.legible j below
+
+  room : j * width_of n + width_of n ≤ length left
+  room = omega (arith, row_room j rank (width_of n) below, memory.words)
+
+  place : j < length cs'
+  place = omega (arith, memory.constants)
+
   abbrev w : ℕ
   w = width_of n
 

@@ -1,5 +1,5 @@
 -- What the private functions of `probe` ask and leave, for their contracts alone: no reader has to believe it, since `probe` asks nothing.
-use Rattle.std.specs.Prelude.{ℕ, ◌+◌, ◌*◌, ◌%◌, ◌^◌, ◌≤◌, ◌<◌, ◌≡◌, length, get_or}
+use Rattle.std.specs.Prelude.{ℕ, ◌*◌, ◌%◌, ◌^◌, ◌≤◌, ◌<◌, ◌≡◌, length, get_or}
 use mathlib.Core.List.{List, map, zip_with}
 use Rattle.std.specs.Int.Bits.{bit_and, bit_xor}
 use Rattle.std.specs.Int.Count.{ones}
@@ -8,36 +8,21 @@ use Rattle.rows.specs.Row.{Row}
 use Rattle.rows.specs.Decisions.{Decisions}
 use Rattle.rows.specs.Flat.{width_of, row, row_at, atoms_of}
 use Rattle.echelon.specs.Forward.{low}
-use Rattle.region.specs.Masks.{is_held, is_open}
-use Rattle.probe.specs.Elimination.{substituted, Kept}
+use Rattle.parity.specs.Basis.{rows_of}
+use Rattle.parity.specs.declared.basis.Basis.{Basis}
+use Rattle.probe.specs.Elimination.{substituted, eliminated, Kept}
 use Rattle.probe.specs.declared.eliminate.Eliminated.{Eliminated}
+use Rattle.inspect.specs.declared.Masks.{Masks}
+use Rattle.inspect.specs.Steps.{Masked}
 
 -- The lowest atoms of rows.
 abbrev pub pivots : List Row → List ℕ
 pivots ks = map (λ k. low k.atoms) ks
 
--- Two masks of eight words.
-pub record Wide (held free : List ℕ) : Type 0 where
-  pub held_wide : length held ≡ 8
-  pub free_wide : length free ≡ 8
-
--- The masks of the atoms that decisions hold, and leave open.
-pub record Masked (n : ℕ) (p : Decisions) (held free : List ℕ) : Type 0 where
-  pub held_are : map is_held p ≡ atoms_of n (set_of held)
-  pub open_are : map is_open p ≡ atoms_of n (set_of free)
-
 -- Memory for so many rows over n atoms.
 pub record Room (n rank : ℕ) (left cs : List ℕ) : Type 0 where
   pub words : rank * width_of n ≤ length left
   pub constants : rank ≤ length cs
-
--- Row j of the memory and row s of the words, of so many words each, lie within.
-pub record Within (w : ℕ) (left cs' : List ℕ) (j : ℕ) (ws cs : List ℕ) (s : ℕ) : Type 0 where
-  pub narrow : w ≤ 8
-  pub words : j * w + w ≤ length left
-  pub constant : j < length cs'
-  pub words' : s * w + w ≤ length ws
-  pub constant' : s < length cs
 
 -- The open atoms of row s in words, and its constant flipped by each atom held.
 abbrev pub open_of : ℕ → (free ws : List ℕ) → ℕ → List ℕ
@@ -56,3 +41,7 @@ pub record Opened (n : ℕ) (held free ws cs ps left cs' : List ℕ) (j : ℕ) :
 -- What is told of the rows kept.
 abbrev pub told : Kept → Eliminated
 told kept = record { kept = length kept.rows; sound = kept.sound }
+
+-- That is told of the basis rows, whatever decisions have these masks.
+abbrev pub ToldOf : Basis → Masks → Eliminated → Type 0
+ToldOf b m result = (p : Decisions) → Masked b.atoms p m.held m.free → result ≡ told (eliminated p (rows_of b))

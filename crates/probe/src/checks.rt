@@ -1,49 +1,40 @@
-// The number under which `probe` refuses: 10, 13 for the rank, 9, 11, 12, 13 for a basis entry, 15.
+// Whether what `probe` is asked is fit: document 01's numbers 10, 13 for the rank, 9, 11, 12, 13 for a basis entry, 15.
 ghost use Rattle.std.specs.Prelude.{◌≡◌};
-ghost use Rattle.probe.specs.Probe.{probe_unfit};
+ghost use Rattle.probe.specs.Probe.{probe_check};
 
+use fit::LIMIT;
 use parity::System;
+use refusal::Refusal;
 use region::Region;
 
-// The number, or 0.
-pub fn unfit(
+// The checks in their order.
+#[tactic(auto, unfolding(crate::specs::Probe::probe_check, fit::specs::Rows::rows_check, region::specs::Calls::region_check))]
+pub fn check(
     system: System,
     rows: &[u64],
     constants: &[u8],
     basis: &[usize],
     region: Region,
-) -> usize
-    ensures { result ≡ probe_unfit system rows.now constants.now basis.now region }
+) -> Result<(), Refusal>
+    ensures { result ≡ probe_check system rows.now constants.now basis.now region }
 {
-    let lent = fit::rows_number(system.atoms, system.rows, rows, constants);
-    if lent == 10 {
-        return 10;
+    if system.atoms > LIMIT || system.rows > LIMIT || region.atoms > LIMIT {
+        return Err(Refusal::Overfull);
     }
-    let number = region.number();
-    if number == 10 {
-        return 10;
-    }
-    let entries = fit::least(system.rows, system.atoms);
+    let entries = system.rows.min(system.atoms);
     if system.rank > entries {
-        return 13;
-    }
-    if lent == 9 {
-        return 9;
+        return Err(Refusal::Basis);
     }
     if basis.len() < entries {
-        return 9;
+        return Err(Refusal::Short);
     }
-    if lent == 11 {
-        return 11;
-    }
-    if number != 0 {
-        return number;
-    }
+    fit::check_rows(system.atoms, system.rows, rows, constants)?;
+    region.check()?;
     if fit::any_misnames(basis, system.rows, system.rank) {
-        return 13;
+        return Err(Refusal::Basis);
     }
     if region.atoms != system.atoms {
-        return 15;
+        return Err(Refusal::Unequal);
     }
-    0
+    Ok(())
 }

@@ -1,25 +1,20 @@
 // Elimination over the open atoms: "Basis rows in order, decided atoms taken out, each held one flipping the constant."
 // The rows are written into memory of the probe's own, and `echelon` eliminates them there. It stops at a lowest atom without a pivot, where
 // document 01 adds every row kept; as many rows are kept, and no is said at the same row (proofs/Agreed.antt).
-ghost use Rattle.std.specs.Prelude.{◌≡◌, ◌%◌, ◌≤◌, ◌<◌, min, length, get_or, set, take};
+ghost use Rattle.std.specs.Prelude.{◌≡◌, Ok, ◌*◌, ◌%◌, ◌≤◌, ◌<◌, min, length, get_or, set};
 ghost use mathlib.Core.List.{zip_with};
 ghost use Rattle.std.specs.Int.Bits.{bit_and};
 ghost use Rattle.std.specs.Int.Count.{ones};
 ghost use Rattle.words.specs.Set.{set_of};
-ghost use Rattle.rows.specs.Decisions.{Decisions};
+ghost use Rattle.rows.specs.Flat.{width_of};
 ghost use Rattle.echelon.specs.Steps.{put};
-ghost use Rattle.parity.specs.Basis.{basis_of};
-ghost use Rattle.region.specs.Masks.{decisions};
-ghost use Rattle.region.specs.Calls.{region_unfit};
-ghost use Rattle.inspect.specs.Steps.{Named};
-ghost use Rattle.probe.specs.Elimination.{eliminated};
-ghost use Rattle.probe.specs.Steps.{Wide, Masked, Room, Within, open_of, flipped_of, Opened, told};
+ghost use Rattle.probe.specs.Steps.{Room, open_of, flipped_of, Opened, ToldOf};
 
-use parity::System;
-use region::Region;
-use rows::{Ordinal, Source};
+use inspect::Masks;
+use parity::Basis;
+use rows::Ordinal;
 
-// How many rows are kept, and whether none was left empty with constant 1.
+// How many rows are kept, and whether none was left empty with constant 1. The number counts on no too, so it stands beside the flag.
 #[derive(Clone, Copy)]
 pub struct Eliminated {
     pub kept: usize,
@@ -27,247 +22,102 @@ pub struct Eliminated {
 }
 
 // Writes the open atoms of a row, and gives back the parity of its held ones.
-fn open_words(left: &mut [u64], words: &[u64], held: &[u64; 8], free: &[u64; 8]) -> u8
-    requires { (length words.now ≤ 8) × (length left.old ≡ length words.now) × Wide held.now free.now }
-    ensures left { left.new ≡ zip_with bit_and words.now free.now }
-    ensures parity { result ≡ ones (bit_and (set_of words.now) (set_of held.now)) % 2 }
+fn split(masks: &Masks, words: &[u64], left: &mut [u64]) -> u8
+    requires few { length words.now ≤ 8 }
+    requires equal { length left.old ≡ length words.now }
+    ensures left { left.new ≡ zip_with bit_and words.now masks.now.free }
+    ensures parity { result ≡ ones (bit_and (set_of words.now) (set_of masks.now.held)) % 2 }
+    ensures wide { length masks.now.free ≡ 8 }
 {
-    let mut sum: u64 = 0;
-    let mut i = 0;
-    while i < words.len() {
-        left[i] = words[i] & free[i];
-        sum = sum ^ (words[i] & held[i]);
-        i += 1;
+    let mut sum = 0u64;
+    for (i, word) in words.iter().enumerate() {
+        left[i] = word & masks.free[i];
+        sum ^= word & masks.held[i];
     }
-    (u64::count_ones(sum) % 2) as u8
+    (sum.count_ones() % 2) as u8
 }
 
-// "decided atoms taken out, each held one flipping the constant": a row written at its place in the memory.
+// "decided atoms taken out, each held one flipping the constant": the row of one ordinal, written at its place in the memory.
 fn substitute(
+    basis: &Basis,
+    masks: &Masks,
+    ordinal: Ordinal,
     left: &mut [u64],
-    left_constants: &mut [u8],
-    place: Ordinal,
-    width: usize,
-    rows: &[u64],
-    constants: &[u8],
-    number: Source,
-    held: &[u64; 8],
-    free: &[u64; 8],
+    constants: &mut [u8],
 )
-    requires { Within width left.old left_constants.old place.0 rows.now constants.now number.0 × Wide held.now free.now }
-    ensures words { left.new ≡ put width place.0 left.old (open_of width free.now rows.now number.0) }
-    ensures constant { left_constants.new ≡ set left_constants.old place.0 (flipped_of width held.now rows.now constants.now number.0) }
+    requires ranked { ordinal.0 < basis.now.rank }
+    requires room { Room basis.now.atoms basis.now.rank left.old constants.old }
+    ensures words { left.new ≡ put (width_of basis.now.atoms) ordinal.0 left.old (open_of (width_of basis.now.atoms) masks.now.free basis.now.rows.now (get_or basis.now.entries.now ordinal.0 0)) }
+    ensures wide { length masks.now.free ≡ 8 }
+    ensures constant { constants.new ≡ set constants.old ordinal.0 (flipped_of (width_of basis.now.atoms) masks.now.held basis.now.rows.now basis.now.constants.now (get_or basis.now.entries.now ordinal.0 0)) }
 {
-    let start = place.0 * width;
-    let end = start + width;
-    let from = number.0 * width;
-    let to = from + width;
-    let flips = open_words(&mut left[start..end], &rows[from..to], held, free);
-    let source = number.0;
-    let at = place.0;
-    left_constants[at] = constants[source] ^ flips;
-}
-
-// The row that a place of the basis names, written at that place.
-fn substitute_at(
-    left: &mut [u64],
-    left_constants: &mut [u8],
-    place: Ordinal,
-    width: usize,
-    rows: &[u64],
-    constants: &[u8],
-    basis: &[usize],
-    held: &[u64; 8],
-    free: &[u64; 8],
-)
-    requires { (place.0 < length basis.now) × Within width left.old left_constants.old place.0 rows.now constants.now (get_or basis.now place.0 0) × Wide held.now free.now }
-    ensures words { left.new ≡ put width place.0 left.old (open_of width free.now rows.now (get_or basis.now place.0 0)) }
-    ensures constant { left_constants.new ≡ set left_constants.old place.0 (flipped_of width held.now rows.now constants.now (get_or basis.now place.0 0)) }
-{
-    match rows::source_at(basis, place) {
-        rows::Entry::Names(number) => substitute(
-            left,
-            left_constants,
-            place,
-            width,
-            rows,
-            constants,
-            number,
-            held,
-            free,
-        ),
-        rows::Entry::Nothing => {}
-    }
+    let source = basis.source(ordinal).unwrap();
+    let width = rows::width(basis.atoms);
+    let from = source.0 * width;
+    let start = ordinal.0 * width;
+    let flips = split(
+        masks,
+        &basis.rows[from..from + width],
+        &mut left[start..start + width],
+    );
+    constants[ordinal.0] = basis.constants[source.0] ^ flips;
 }
 
 // The basis rows in order.
-fn substitute_rows(
-    left: &mut [u64],
-    left_constants: &mut [u8],
-    n: usize,
-    rank: usize,
-    rows: &[u64],
-    constants: &[u8],
-    basis: &[usize],
-    held: &[u64; 8],
-    free: &[u64; 8],
-)
-    requires { Named n rank rows.now constants.now basis.now × Room n rank left.old left_constants.old × Wide held.now free.now }
-    ensures { Opened n held.now free.now rows.now constants.now basis.now left.new left_constants.new rank }
+fn substitute_all(basis: &Basis, masks: &Masks, left: &mut [u64], constants: &mut [u8])
+    requires { Room basis.now.atoms basis.now.rank left.old constants.old }
+    ensures { Opened basis.now.atoms masks.now.held masks.now.free basis.now.rows.now basis.now.constants.now basis.now.entries.now left.new constants.new basis.now.rank }
 {
-    let width = rows::width(n);
-    let mut j = 0;
-    while j < rank {
-        substitute_at(
-            left,
-            left_constants,
-            Ordinal(j),
-            width,
-            rows,
-            constants,
-            basis,
-            held,
-            free,
-        );
-        j += 1;
+    for j in 0..basis.rank {
+        substitute(basis, masks, Ordinal(j), left, constants);
     }
 }
 
 // The basis rows over the open atoms, in memory that has room for them and for their pivots.
-fn eliminate_rows(
-    n: usize,
-    rank: usize,
-    rows: &[u64],
-    constants: &[u8],
-    basis: &[usize],
-    held: &[u64; 8],
-    free: &[u64; 8],
+fn eliminate_with(
+    basis: &Basis,
+    masks: &Masks,
     left: &mut [u64],
-    left_constants: &mut [u8],
+    constants: &mut [u8],
     pivots: &mut [usize],
 ) -> Eliminated
-    requires { Named n rank rows.now constants.now basis.now × (n ≤ 512) × Room n rank left.old left_constants.old × (min rank n ≤ length pivots.old) × Wide held.now free.now }
-    ensures { (p : Decisions) → Masked n p held.now free.now → result ≡ told (eliminated p (basis_of n rows.now constants.now (take rank basis.now))) }
+    requires room { Room basis.now.atoms basis.now.rank left.old constants.old }
+    requires pivots { min basis.now.rank basis.now.atoms ≤ length pivots.old }
+    ensures { ToldOf basis.now masks.now result }
 {
-    substitute_rows(
-        left,
-        left_constants,
-        n,
-        rank,
-        rows,
-        constants,
-        basis,
-        held,
-        free,
-    );
-    let done = echelon::eliminate(n, rank, left, left_constants, pivots);
+    substitute_all(basis, masks, left, constants);
+    let done = echelon::eliminate(basis.atoms, basis.rank, left, constants, pivots).unwrap();
     Eliminated {
         kept: done.rank,
         sound: !done.refuted,
     }
 }
 
-// The same in memory of its own: as much as the rows need, since it is cleared first.
-fn eliminate_open(
-    n: usize,
-    rank: usize,
-    rows: &[u64],
-    constants: &[u8],
-    basis: &[usize],
-    held: &[u64; 8],
-    free: &[u64; 8],
-) -> Eliminated
-    requires { Named n rank rows.now constants.now basis.now × (n ≤ 512) × (rank ≤ n) × Wide held.now free.now }
-    ensures { (p : Decisions) → Masked n p held.now free.now → result ≡ told (eliminated p (basis_of n rows.now constants.now (take rank basis.now))) }
+// The same in memory of its own, for so many words and rows.
+fn eliminate_in<const WORDS: usize, const ROWS: usize>(basis: &Basis, masks: &Masks) -> Eliminated
+    requires words { basis.now.rank * width_of basis.now.atoms ≤ WORDS }
+    requires rows { basis.now.rank ≤ ROWS }
+    requires small { (WORDS ≤ 4096) × (ROWS ≤ 512) }
+    ensures { ToldOf basis.now masks.now result }
 {
-    if n <= 8 {
-        let mut few = [0u64; 8];
-        let mut few_constants = [0u8; 8];
-        let mut few_pivots = [0usize; 8];
-        return eliminate_rows(
-            n,
-            rank,
-            rows,
-            constants,
-            basis,
-            held,
-            free,
-            &mut few,
-            &mut few_constants,
-            &mut few_pivots,
-        );
-    }
-    if n <= 64 {
-        let mut some = [0u64; 64];
-        let mut some_constants = [0u8; 64];
-        let mut some_pivots = [0usize; 64];
-        return eliminate_rows(
-            n,
-            rank,
-            rows,
-            constants,
-            basis,
-            held,
-            free,
-            &mut some,
-            &mut some_constants,
-            &mut some_pivots,
-        );
-    }
-    let mut left_constants = [0u8; 512];
-    let mut pivots = [0usize; 512];
-    if rank * rows::width(n) <= 512 {
-        let mut many = [0u64; 512];
-        return eliminate_rows(
-            n,
-            rank,
-            rows,
-            constants,
-            basis,
-            held,
-            free,
-            &mut many,
-            &mut left_constants,
-            &mut pivots,
-        );
-    }
-    let mut left = [0u64; 4096];
-    eliminate_rows(
-        n,
-        rank,
-        rows,
-        constants,
-        basis,
-        held,
-        free,
-        &mut left,
-        &mut left_constants,
-        &mut pivots,
-    )
+    let mut left = [0u64; WORDS];
+    let mut constants = [0u8; ROWS];
+    let mut pivots = [0usize; ROWS];
+    eliminate_with(basis, masks, &mut left, &mut constants, &mut pivots)
 }
 
-// The basis rows of a system over what a region leaves open: the atoms that are not held and not cut; no row has an atom from n on.
-pub fn eliminate(
-    system: System,
-    rows: &[u64],
-    constants: &[u8],
-    basis: &[usize],
-    region: Region,
-) -> Eliminated
-    requires { Named system.atoms system.rank rows.now constants.now basis.now × (system.rank ≤ system.atoms) × (region_unfit region ≡ 0) × (region.atoms ≡ system.atoms) }
-    ensures { result ≡ told (eliminated (decisions region) (basis_of system.atoms rows.now constants.now (take system.rank basis.now))) }
+// The same in as much memory as the rows need, since it is cleared first.
+pub fn eliminate(basis: &Basis, masks: &Masks) -> Eliminated
+    ensures { ToldOf basis.now masks.now result }
 {
-    let held = region.held;
-    let mut free = [0xffff_ffff_ffff_ffffu64; 8];
-    words::xor_assign(&mut free, &region.held);
-    words::xor_assign(&mut free, &region.cut);
-    eliminate_open(
-        system.atoms,
-        system.rank,
-        rows,
-        constants,
-        basis,
-        &held,
-        &free,
-    )
+    if basis.atoms <= 8 {
+        return eliminate_in::<8, 8>(basis, masks);
+    }
+    if basis.atoms <= 64 {
+        return eliminate_in::<64, 64>(basis, masks);
+    }
+    if basis.rank * rows::width(basis.atoms) <= 512 {
+        return eliminate_in::<512, 512>(basis, masks);
+    }
+    eliminate_in::<4096, 512>(basis, masks)
 }

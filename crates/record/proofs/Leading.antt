@@ -1,62 +1,28 @@
--- The atoms at the head of a list that are good, or that rise, counted one after another: those from the i-th on are left.
-use Prim.Native.Nat.{ℕ, suc, ◌+◌, ◌-◌, ◌≤◌, ◌<◌}
-use mathlib.Core.Path.{◌≡◌, sym, ap, ◌∙◌}
-use mathlib.Core.List.{[]}
-use mathlib.Core.Bool.{Bool, cond}
-use native.Mathlib.Numerals.{add-one}
-use native.Mathlib.Omega.{arith}
-use borrow.Author.Tests.{lt-ltb, le-ltb, le-leb, lt-leb}
+-- A record's atoms by their places: all are below n, or rise, when those at the places do.
+use Rattle.std.proofs.Common.{◌≡◌, ℕ, zero, suc, ◌+◌, ◌-◌, ◌&&◌, ltb, refl, sym, ap, ap₂, ◌∙◌, add-one, le-leb, arith}
+use Rattle.std.specs.List.{list_all, range_with_len}
 use Rattle.format.specs.Bytes.{list_from}
-use Rattle.format.proofs.Listing.{list_next}
-use Rattle.record.specs.Fields.{good_atoms, rising_atoms}
+use Rattle.record.specs.Fields.{all_below, rises}
 
-module _ (number : ℕ → ℕ) (i count : ℕ) where
-  none_left : count ≤ i → list_from number i (count - i) ≡ []
-  unfolding list_from
-  none_left h = let z : count - i ≡ 0 = omega arith in ap (list_from number i) z
+module _ (number : ℕ → ℕ) where
+  pub all_below_by_place : (n i c : ℕ) → list_all (λ j. ltb (number j) n) (range_with_len i c) ≡ all_below n (list_from number i c)
+  unfolding list_from all_below
+  all_below_by_place n i zero = refl
+  all_below_by_place n i (suc c) =
+      ap (λ t. ltb (number i) n && t) (all_below_by_place n (i + 1) c ∙ ap (λ j. all_below n (list_from number j c)) (add-one i))
 
-  module _ (n : ℕ) where
-    pub good_next : i < count → number i < n
-        → (i + 1) + good_atoms n (list_from number (i + 1) (count - (i + 1))) ≡ i + good_atoms n (list_from number i (count - i))
-    unfolding good_atoms
-    good_next h k =
-        let rest = list_from number (i + 1) (count - (i + 1)) in
-        let one : good_atoms n (list_from number i (count - i)) ≡ suc (good_atoms n rest) =
-        ap (good_atoms n) (list_next number i count h) ∙ ap (λ (t : Bool). cond t (suc (good_atoms n rest)) 0) (lt-ltb (number i) n k) in
-        omega (arith, one)
+  rises_later : (i j c : ℕ) → j ≡ suc i → list_all (λ j. ltb (number (j - 1)) (number j)) (range_with_len j c) ≡ rises (suc (number i)) (list_from number j c)
+  unfolding list_from rises
+  rises_later i j zero e = refl
+  rises_later i j (suc c) e =
+      let before : j - 1 ≡ i = omega arith in
+      ap₂ (λ k t. ltb (number k) (number j) && t) before
+      (rises_later j (j + 1) c (add-one j) ∙ ap (λ k. rises (suc (number j)) (list_from number k c)) (add-one j))
 
-    pub good_found : i < count → n ≤ number i → i + good_atoms n (list_from number i (count - i)) ≡ i
-    unfolding good_atoms
-    good_found h k =
-        let rest = list_from number (i + 1) (count - (i + 1)) in
-        let none : good_atoms n (list_from number i (count - i)) ≡ 0 =
-        ap (good_atoms n) (list_next number i count h) ∙ ap (λ (t : Bool). cond t (suc (good_atoms n rest)) 0) (le-ltb (number i) n k) in
-        omega (arith, none)
-
-    pub good_all : count ≤ i → i ≤ count → i + good_atoms n (list_from number i (count - i)) ≡ count
-    unfolding good_atoms
-    good_all h k = let none : good_atoms n (list_from number i (count - i)) ≡ 0 = ap (good_atoms n) (none_left h) in omega (arith, none)
-
-  module _ (from : ℕ) where
-    pub rising_next : i < count → from ≤ number i
-        → (i + 1) + rising_atoms (number i + 1) (list_from number (i + 1) (count - (i + 1))) ≡ i + rising_atoms from (list_from number i (count - i))
-    unfolding rising_atoms
-    rising_next h k =
-        let rest = list_from number (i + 1) (count - (i + 1)) in
-        let one : rising_atoms from (list_from number i (count - i)) ≡ suc (rising_atoms (number i + 1) rest) =
-        ap (rising_atoms from) (list_next number i count h) ∙ ap (λ (t : Bool). cond t (suc (rising_atoms (suc (number i)) rest)) 0) (le-leb from (number i) k)
-        ∙ ap (λ (f : ℕ). suc (rising_atoms f rest)) (sym (add-one (number i))) in
-        omega (arith, one)
-
-    pub rising_found : i < count → number i < from → i + rising_atoms from (list_from number i (count - i)) ≡ i
-    unfolding rising_atoms
-    rising_found h k =
-        let rest = list_from number (i + 1) (count - (i + 1)) in
-        let none : rising_atoms from (list_from number i (count - i)) ≡ 0 =
-        ap (rising_atoms from) (list_next number i count h) ∙ ap (λ (t : Bool). cond t (suc (rising_atoms (suc (number i)) rest)) 0) (lt-leb from (number i) k) in
-        omega (arith, none)
-
-    pub rising_all : count ≤ i → i ≤ count → i + rising_atoms from (list_from number i (count - i)) ≡ count
-    unfolding rising_atoms
-    rising_all h k =
-        let none : rising_atoms from (list_from number i (count - i)) ≡ 0 = ap (rising_atoms from) (none_left h) in omega (arith, none)
+  pub rises_by_place : (c : ℕ) → list_all (λ j. ltb (number (j - 1)) (number j)) (range_with_len 1 (c - 1)) ≡ rises 0 (list_from number 0 c)
+  unfolding list_from rises
+  rises_by_place zero = refl
+  rises_by_place (suc c) =
+      let left : suc c - 1 ≡ c = omega arith in
+      ap (λ k. list_all (λ j. ltb (number (j - 1)) (number j)) (range_with_len 1 k)) left ∙ rises_later 0 1 c refl
+      ∙ ap (λ b. b && rises (suc (number 0)) (list_from number 1 c)) (sym (le-leb 0 (number 0) (omega arith)))

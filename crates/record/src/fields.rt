@@ -1,101 +1,55 @@
 // The checks of a record's fields: numbers within their bounds (4), and a table's atoms rising (5).
-ghost use Rattle.std.specs.Prelude.{◌≡◌, ◌<◌};
+ghost use Rattle.std.specs.Prelude.{◌≡◌};
 ghost use Rattle.format.specs.Bytes.{list_from};
 ghost use Rattle.format.specs.Format.{atom_at};
-ghost use Rattle.record.specs.Fields.{good_atoms, rising_atoms, count_fault, atoms_fault, row_fault, decision_fault, range_fault, rising_fault};
+ghost use Rattle.record.specs.Fields.{all_below, rises, range_check, rising_check};
 
-use super::{Fault, faults};
+use super::{Fault, FaultKind};
+use format::{Kind, Record};
 
-// How many of a record's first `count` atoms come before one that is not below n.
-fn good_atoms(file: &[u8], n: usize, o: usize, count: usize) -> usize
-    requires { count < 65536 }
-    ensures { result ≡ good_atoms n (list_from (atom_at file.now o) 0 count) }
+// Whether a record's first `count` atoms are below n.
+fn all_below(record: Record, n: usize, count: usize) -> bool
+    ensures { result ≡ all_below n (list_from (atom_at record.entry.file.now record.entry.offset) 0 count) }
 {
-    let mut i = 0;
-    while i < count {
-        if n <= format::short(file, o, 5 + i * 2) {
-            return i;
+    (0..count).all(|i| usize::from(record.atom(i)) < n)
+}
+
+// Whether they rise.
+fn rises(record: Record, count: usize) -> bool
+    ensures { result ≡ rises 0 (list_from (atom_at record.entry.file.now record.entry.offset) 0 count) }
+{
+    (1..count).all(|i| record.atom(i - 1) < record.atom(i))
+}
+
+#[tactic(auto, unfolding(crate::specs::Fields::range_check))]
+pub fn check_range(record: Record, kind: Kind, n: usize) -> Result<(), Fault>
+    ensures { result ≡ range_check record.entry.file.now kind n record.entry.offset }
+{
+    let o = record.offset;
+    match kind {
+        Kind::Atoms => FaultKind::Range.unless(record.count() <= 512, o),
+        Kind::Row => {
+            FaultKind::Range.unless(record.constant() <= 1, o)?;
+            FaultKind::Range.unless(all_below(record, n, usize::from(record.atom_count())), o)
         }
-        i += 1;
-    }
-    count
-}
-
-// How many of them come before one that does not rise.
-fn rising_atoms(file: &[u8], o: usize, count: usize) -> usize
-    requires { count < 65536 }
-    ensures { result ≡ rising_atoms 0 (list_from (atom_at file.now o) 0 count) }
-{
-    let mut from = 0;
-    let mut i = 0;
-    while i < count {
-        let atom = format::short(file, o, 5 + i * 2);
-        if atom < from {
-            return i;
+        Kind::Table => FaultKind::Range.unless(all_below(record, n, usize::from(record.k())), o),
+        Kind::Decide => {
+            FaultKind::Range.unless(usize::from(record.decided()) < n, o)?;
+            FaultKind::Range.unless(record.value() <= 1, o)
         }
-        from = atom + 1;
-        i += 1;
+        Kind::Inspect | Kind::Probe => Ok(()),
     }
-    count
 }
 
-fn count_fault(file: &[u8], o: usize) -> Fault
-    ensures { result ≡ count_fault file.now o }
+#[tactic(auto, unfolding(crate::specs::Fields::rising_check))]
+pub fn check_rising(record: Record, kind: Kind) -> Result<(), Fault>
+    ensures { result ≡ rising_check record.entry.file.now kind record.entry.offset }
 {
-    faults::unless(format::short(file, o, 4) <= 512, 4, o)
-}
-
-fn atoms_fault(file: &[u8], n: usize, o: usize, count: usize) -> Fault
-    requires { count < 65536 }
-    ensures { result ≡ atoms_fault n (list_from (atom_at file.now o) 0 count) o }
-{
-    faults::unless(good_atoms(file, n, o, count) == count, 4, o)
-}
-
-fn row_fault(file: &[u8], n: usize, o: usize) -> Fault
-    ensures { result ≡ row_fault file.now n o }
-{
-    let constant = faults::unless(format::byte(file, o, 4) <= 1, 4, o);
-    if constant.number != 0 {
-        return constant;
+    match kind {
+        Kind::Table => FaultKind::Rising.unless(
+            rises(record, usize::from(record.k())),
+            record.offset,
+        ),
+        _ => Ok(()),
     }
-    atoms_fault(file, n, o, format::atom_count(file, o))
-}
-
-fn decision_fault(file: &[u8], n: usize, o: usize) -> Fault
-    ensures { result ≡ decision_fault file.now n o }
-{
-    let atom = faults::unless(format::short(file, o, 4) < n, 4, o);
-    if atom.number != 0 {
-        return atom;
-    }
-    faults::unless(format::byte(file, o, 6) <= 1, 4, o)
-}
-
-pub fn range_fault(file: &[u8], kind: usize, n: usize, o: usize) -> Fault
-    ensures { result ≡ range_fault file.now kind n o }
-{
-    if kind == 1 {
-        return count_fault(file, o);
-    }
-    if kind == 2 {
-        return row_fault(file, n, o);
-    }
-    if kind == 3 {
-        return atoms_fault(file, n, o, format::byte(file, o, 4));
-    }
-    if kind == 4 {
-        return decision_fault(file, n, o);
-    }
-    faults::none()
-}
-
-pub fn rising_fault(file: &[u8], kind: usize, o: usize) -> Fault
-    ensures { result ≡ rising_fault file.now kind o }
-{
-    if kind != 3 {
-        return faults::none();
-    }
-    let k = format::byte(file, o, 4);
-    faults::unless(rising_atoms(file, o, k) == k, 5, o)
 }

@@ -1,107 +1,96 @@
 // The checks of a record's form: its length (1), the order of kinds (2) and the size of its body (3).
-ghost use Rattle.std.specs.Prelude.{◌≡◌, ◌&&◌, ◌+◌, leb};
-ghost use Rattle.record.specs.Form.{length_fault, group_of, follows, kind_fault, fit_size, table_size_fault, size_fault};
+ghost use Rattle.std.specs.Prelude.{◌≡◌, ◌&&◌, ◌+◌, length, leb};
+ghost use Rattle.format.specs.Format.{length_at, kind_at, end_at};
+ghost use Rattle.format.specs.Kind.{kind_of};
+ghost use Rattle.record.specs.Form.{length_check, group_of, follows, kind_check, table_size_check, size_check};
 
-use super::{Fault, faults};
+use super::{Fault, FaultKind};
+use format::{Kind, Record};
 
-// Whether the record at o lies within so many bytes, by its length; nothing that could wrap is worked out.
-fn framed(bytes: usize, o: usize, length: usize) -> bool
-    ensures { result ≡ (leb (o + 2) bytes && (leb 2 length && leb (o + (2 + length)) bytes)) }
-{
-    if bytes < 2 {
-        return false;
-    }
-    if bytes - 2 < o {
-        return false;
-    }
-    if length < 2 {
-        return false;
-    }
-    length <= bytes - 2 - o
+// The groups of kinds, in the order in which they stand in a file.
+#[derive(Clone, Copy, Debug, PartialEq, Eq, PartialOrd, Ord)]
+pub enum Group {
+    Count,
+    Parts,
+    Calls,
 }
 
-pub fn length_fault(file: &[u8], o: usize) -> Fault
-    ensures { result ≡ length_fault file.now o }
-{
-    faults::unless(framed(file.len(), o, format::length(file, o)), 1, o)
+impl From<Kind> for Group {
+    ghost from_gives = { λ kind group. group ≡ group_of kind };
+
+    fn from(kind: Kind) -> Group {
+        match kind {
+            Kind::Atoms => Group::Count,
+            Kind::Row | Kind::Table => Group::Parts,
+            Kind::Decide | Kind::Inspect | Kind::Probe => Group::Calls,
+        }
+    }
 }
 
-pub fn group(kind: usize) -> usize
-    ensures { result ≡ group_of kind }
+// Whether the record lies within its file, by its length; nothing that could wrap is worked out.
+fn framed(record: Record) -> bool
+    ensures { result ≡ (leb (record.entry.offset + 2) (length record.entry.file.now) && (leb 2 (length_at record.entry.file.now record.entry.offset) && leb (end_at record.entry.file.now record.entry.offset) (length record.entry.file.now))) }
 {
-    if kind == 1 {
-        return 1;
-    }
-    if kind < 2 {
-        return 0;
-    }
-    if kind <= 3 {
-        return 2;
-    }
-    if kind <= 6 {
-        return 3;
-    }
-    0
+    let left = record.file.len().saturating_sub(record.offset);
+    let length = usize::from(record.length());
+    2 <= left && 2 <= length && length <= left - 2
 }
 
-fn may_follow(before: usize, group: usize) -> bool
+#[tactic(auto, unfolding(crate::specs::Form::length_check))]
+pub fn check_length(record: Record) -> Result<(), Fault>
+    ensures { result ≡ length_check record.entry.file.now record.entry.offset }
+{
+    FaultKind::Length.unless(framed(record), record.offset)
+}
+
+fn may_follow(before: Option<Group>, group: Group) -> bool
     ensures { result ≡ follows before group }
 {
-    if before == 0 {
-        return group == 1;
+    match before {
+        None => group == Group::Count,
+        Some(before) => group != Group::Count && before <= group,
     }
-    if group < 2 {
-        return false;
-    }
-    before <= group
 }
 
-pub fn kind_fault(before: usize, kind: usize, o: usize) -> Fault
-    ensures { result ≡ kind_fault before kind o }
+// The kind, where it is one and may stand after what was before.
+#[tactic(auto, unfolding(crate::specs::Form::kind_check))]
+pub fn check_kind(before: Option<Group>, record: Record) -> Result<Kind, Fault>
+    ensures { result ≡ kind_check before (kind_of (kind_at record.entry.file.now record.entry.offset)) record.entry.offset }
 {
-    faults::unless(may_follow(before, group(kind)), 2, o)
+    let fault = Fault {
+        kind: FaultKind::Order,
+        offset: record.offset,
+    };
+    let kind = record.kind().or(Err(fault))?;
+    FaultKind::Order.unless(may_follow(before, Group::from(kind)), record.offset)?;
+    Ok(kind)
 }
 
-fn fit_size(kind: usize, size: usize) -> bool
-    ensures { result ≡ fit_size kind size }
+#[tactic(auto, unfolding(crate::specs::Form::table_size_check))]
+fn check_table_size(record: Record) -> Result<(), Fault>
+    ensures { result ≡ table_size_check record.entry.file.now record.entry.offset }
 {
-    if kind == 1 {
-        return size == 2;
-    }
-    if kind == 2 {
-        return size % 2 == 1;
-    }
-    if kind == 4 {
-        return size == 3;
-    }
-    size == 0
+    let size = usize::from(record.body());
+    let k = usize::from(record.k());
+    FaultKind::Size.unless(size >= 1, record.offset)?;
+    FaultKind::Range.unless(k <= 8, record.offset)?;
+    FaultKind::Size.unless(
+        size == 1 + k * 2 + format::table_words(k) * 8,
+        record.offset,
+    )
 }
 
-fn table_size_fault(file: &[u8], o: usize) -> Fault
-    ensures { result ≡ table_size_fault file.now o }
+#[tactic(auto, unfolding(crate::specs::Form::size_check))]
+pub fn check_size(record: Record, kind: Kind) -> Result<(), Fault>
+    ensures { result ≡ size_check record.entry.file.now kind record.entry.offset }
 {
-    let size = format::body(file, o);
-    if size < 1 {
-        return Fault {
-            number: 3,
-            offset: o,
-        };
-    }
-    let k = format::byte(file, o, 4);
-    if k > 8 {
-        return Fault {
-            number: 4,
-            offset: o,
-        };
-    }
-    faults::unless(size == 1 + k * 2 + format::table_words(k) * 8, 3, o)
-}
-
-pub fn size_fault(file: &[u8], kind: usize, o: usize) -> Fault
-    ensures { result ≡ size_fault file.now kind o }
-{
-    if kind == 3 {
-        return table_size_fault(file, o);
-    }
-    faults::unless(fit_size(kind, format::body(file, o)), 3, o)
+    let size = record.body();
+    let fit = match kind {
+        Kind::Atoms => size == 2,
+        Kind::Row => size % 2 == 1,
+        Kind::Table => return check_table_size(record),
+        Kind::Decide => size == 3,
+        Kind::Inspect | Kind::Probe => size == 0,
+    };
+    FaultKind::Size.unless(fit, record.offset)
 }

@@ -1,13 +1,56 @@
 // One record of a file: the checks of its form and of its fields, document 01's numbers 1 to 5, each with its offset.
 #![tactic(auto)]
 
-pub mod faults;
+ghost use Rattle.std.specs.Prelude.{◌≡◌};
+ghost use Rattle.record.specs.Fault.{fault_number, unless};
+
 pub mod fields;
 pub mod form;
 
-// A fault's number and offset; where there is none the number is 0.
-#[derive(Clone, Copy)]
+// What is wrong with a file; document 01 numbers these from 1 in this order.
+#[derive(Clone, Copy, Debug, PartialEq, Eq)]
+pub enum FaultKind {
+    Length,
+    Order,
+    Size,
+    Range,
+    Rising,
+    Inexact,
+    Rows,
+    TooLong,
+}
+
+// A fault, and the offset of the record that has it.
+#[derive(Clone, Copy, Debug, PartialEq, Eq)]
 pub struct Fault {
-    pub number: usize,
+    pub kind: FaultKind,
     pub offset: usize,
+}
+
+impl FaultKind {
+    pub fn number(self) -> usize
+        ensures { result ≡ fault_number self }
+    {
+        match self {
+            FaultKind::Length => 1,
+            FaultKind::Order => 2,
+            FaultKind::Size => 3,
+            FaultKind::Range => 4,
+            FaultKind::Rising => 5,
+            FaultKind::Inexact => 6,
+            FaultKind::Rows => 7,
+            FaultKind::TooLong => 8,
+        }
+    }
+
+    // This fault, at an offset, unless a test holds.
+    pub fn unless(self, holds: bool, offset: usize) -> Result<(), Fault>
+        ensures { result ≡ unless holds self offset }
+    {
+        if holds {
+            Ok(())
+        } else {
+            Err(Fault { kind: self, offset })
+        }
+    }
 }

@@ -1,176 +1,149 @@
 -- What a record without a fault has passed, and what it then is.
-use Prim.Native.Nat.{ℕ, suc, ◌+◌, ◌≤◌}
-use mathlib.Core.Path.{◌≡◌, refl, sym, ap, subst, ◌∙◌}
-use mathlib.Core.List.{List, [], ◌∷◌}
-use mathlib.Core.Bool.{Bool, true, false, cond, ◌&&◌}
-use native.Mathlib.Nat.{suc_inj}
-use native.Mathlib.Decide.{dec_le}
-use native.Mathlib.Omega.{arith}
-use borrow.Author.Tests.{eqb-true, leb-true, ltb-true, ne_eqb}
-use lib.ListN.{length}
-use lib.Dec.{eqb, leb, ltb}
+use Rattle.std.proofs.Common.{◌≡◌, ℕ, suc, ◌+◌, ◌≤◌, List, [], ◌∷◌, Bool, true, false, ◌&&◌, cond, eqb, leb, ltb, Some, None, Ok, refl, sym, ap, subst, ◌∙◌, leb-true, ltb-true}
 use Rattle.embed.specs.Embed.{Rising}
 use Rattle.fit.specs.Rows.{limit}
-use Rattle.format.specs.Format.{kind_at, count_at, constant_at, row_atoms, k_at, table_atoms, decided_at, value_at, atom_at}
-use Rattle.format.proofs.Listing.{list_length}
-use Rattle.record.specs.Fault.{unless, or_else}
-use Rattle.record.specs.Form.{length_fault, group_of, follows, kind_fault, size_fault}
-use Rattle.record.specs.Fields.{good_atoms, rising_atoms, count_fault, atoms_fault, row_fault, decision_fault, range_fault, rising_fault}
-use Rattle.records.specs.Rows.{exact_at, rows_at, exact_fault, rows_fault}
-use Rattle.records.specs.Check.{fault_at, seen_after}
+use Rattle.format.specs.declared.Kind.{Kind}
+use Rattle.format.specs.declared.Kind.TheVariants.{Atoms, Row, Table, Decide, Inspect, Probe}
+use Rattle.format.specs.Kind.{kind_number, kind_of}
+use Rattle.format.specs.Format.{kind_at, count_at, constant_at, decided_at}
+use Rattle.format.proofs.KindNumbers.{same_kind, kind_named}
+use Rattle.record.specs.Fault.{unless}
+use Rattle.record.specs.Form.{length_check, group_of, follows, kind_check, size_check}
+use Rattle.record.specs.Fields.{all_below, rises, range_check, rising_check}
+use Rattle.record.specs.declared.FaultKind.TheVariants.{Range, Rising as NotRising, Inexact, Rows}
+use Rattle.record.specs.declared.form.Group.{Group}
+use Rattle.record.proofs.Chain.{passes, gives, holds, same_value}
+use Rattle.record.proofs.Ordered.{ordered, sized}
+use Rattle.records.specs.Rows.{hull_at, exact_at, rows_at, brought, rows_after}
+use Rattle.records.specs.Check.{atoms_after, step_of}
 use Rattle.records.specs.Promises.{AllBelow, RecordFit}
 use Rattle.records.specs.declared.Seen.{Seen}
-use Rattle.record.proofs.Chain.{head_none, tail_none, unless_none}
-use Rattle.records.proofs.Folds.{sized}
 
-pub record Passed (file : List ℕ) (seen : Seen) (o : ℕ) : Type 0 where
-  pub framed : (length_fault file o).number ≡ 0
-  pub ordered : (kind_fault seen.group (kind_at file o) o).number ≡ 0
-  pub sizes : (size_fault file (kind_at file o) o).number ≡ 0
-  pub ranges : (range_fault file (kind_at file o) seen.atoms o).number ≡ 0
-  pub rises : (rising_fault file (kind_at file o) o).number ≡ 0
-  pub exact : exact_at file (kind_at file o) o ≡ true
-  pub rows : seen.rows + rows_at file (kind_at file o) o ≤ limit
+pub record Passed (file : List ℕ) (seen : Seen) (o : ℕ) (next : Seen) : Type 0 where
+  pub kind : Kind
+  pub framed : length_check file o ≡ Ok tt
+  pub named : kind_at file o ≡ kind_number kind
+  pub follows_on : follows seen.group (group_of kind) ≡ true
+  pub sizes : size_check file kind o ≡ Ok tt
+  pub ranges : range_check file kind seen.atoms o ≡ Ok tt
+  pub rises : rising_check file kind o ≡ Ok tt
+  pub exact : exact_at file o ≡ true
+  pub rows : seen.rows + rows_at file o ≤ limit
+  pub after : record { group = Some (group_of kind); atoms = atoms_after file kind seen.atoms o; rows = seen.rows + rows_at file o } ≡ next
 
-pub passed : (file : List ℕ) (seen : Seen) (o : ℕ) → (fault_at file seen o).number ≡ 0 → Passed file seen o
-unfolding fault_at
-passed file seen o e1 =
-    let k = kind_at file o in
-    let f1 = length_fault file o in
-    let f2 = kind_fault seen.group k o in
-    let f3 = size_fault file k o in
-    let f4 = range_fault file k seen.atoms o in
-    let f5 = rising_fault file k o in
-    let f6 = exact_fault (exact_at file k o) o in
-    let f7 = rows_fault seen.rows (rows_at file k o) o in
-    let r6 = or_else f6 f7 in
-    let r5 = or_else f5 r6 in
-    let r4 = or_else f4 r5 in
-    let r3 = or_else f3 r4 in
-    let r2 = or_else f2 r3 in
-    let e2 = tail_none f1 r2 e1 in
-    let e3 = tail_none f2 r3 e2 in
-    let e4 = tail_none f3 r4 e3 in
-    let e5 = tail_none f4 r5 e4 in
-    let e6 = tail_none f5 r6 e5 in
+pub passed : (file : List ℕ) (seen : Seen) (o : ℕ) (next : Seen) → step_of file seen o ≡ Ok next → Passed file seen o next
+unfolding step_of
+passed file seen o next e =
+    let framed = passes (length_check file o) _ next e in
+    let found = gives (kind_check seen.group (kind_of (kind_at file o)) o) _ next framed.1 in
+    let kind = found.0 in
+    let order = ordered seen.group (kind_of (kind_at file o)) o kind found.1 in
+    let size = passes (size_check file kind o) _ next found.2 in
+    let range = passes (range_check file kind seen.atoms o) _ next size.1 in
+    let rise = passes (rising_check file kind o) _ next range.1 in
+    let more = gives (brought file o) _ next rise.1 in
+    let exact = passes (unless (exact_at file o) Inexact o) (Ok (rows_at file o)) more.0 more.1 in
+    let sum = gives (rows_after seen.rows more.0 o) _ next more.2 in
+    let few = passes (unless (leb (seen.rows + more.0) limit) Rows o) (Ok (seen.rows + more.0)) sum.0 sum.1 in
+    let brings = same_value (rows_at file o) more.0 exact.1 in
+    let rows = same_value (seen.rows + more.0) sum.0 few.1 in
+    let atoms = atoms_after file kind seen.atoms o in
+    let told = same_value (record { group = Some (group_of kind); atoms = atoms; rows = sum.0 }) next sum.2 in
     record {
-      framed = head_none f1 r2 e1;
-      ordered = head_none f2 r3 e2;
-      sizes = head_none f3 r4 e3;
-      ranges = head_none f4 r5 e4;
-      rises = head_none f5 r6 e5;
-      exact = unless_none _ 5 o (head_none f6 f7 e6);
-      rows = leb-true _ _ (unless_none _ 6 o (tail_none f6 f7 e6));
+      kind = kind;
+      framed = framed.0;
+      named = kind_named _ kind order.0;
+      follows_on = order.1;
+      sizes = size.0;
+      ranges = range.0;
+      rises = rise.0;
+      exact = holds _ Inexact o exact.0;
+      rows = subst (λ m. seen.rows + m ≤ limit) (sym brings) (leb-true _ _ (holds _ Rows o few.0));
+      after = ap (λ m. record { group = Some (group_of kind); atoms = atoms; rows = m }) (ap (λ m. seen.rows + m) brings ∙ rows) ∙ told;
     }
 
--- all atoms are good, and rise
-all_below : (n : ℕ) (atoms : List ℕ) → good_atoms n atoms ≡ length atoms → AllBelow n atoms
-unfolding good_atoms
-all_below n [] e = tt
-all_below n (a ∷ atoms) e = go (ltb a n) refl (all_below n atoms)
-  where
-    go : (t : Bool) → ltb a n ≡ t → (good_atoms n atoms ≡ length atoms → AllBelow n atoms) → AllBelow n (a ∷ atoms)
-    go true h rest = (ltb-true a n h, rest (suc_inj (sym (ap (λ (t : Bool). cond t (suc (good_atoms n atoms)) 0) h) ∙ e)))
-    go false h rest = absurd (omega (arith, sym (ap (λ (t : Bool). cond t (suc (good_atoms n atoms)) 0) h) ∙ e))
+both : (a b : Bool) → (a && b) ≡ true → (a ≡ true) × (b ≡ true)
+both true b e = (refl, e)
+both false b e = absurd (cc)
 
-all_rising : (from n : ℕ) (atoms : List ℕ) → rising_atoms from atoms ≡ length atoms → AllBelow n atoms → Rising from n atoms
-unfolding rising_atoms
-all_rising from n [] e b = tt
-all_rising from n (a ∷ atoms) e b = go (leb from a) refl (all_rising (suc a) n atoms)
-  where
-    go : (t : Bool) → leb from a ≡ t → (rising_atoms (suc a) atoms ≡ length atoms → AllBelow n atoms → Rising (suc a) n atoms) → Rising from n (a ∷ atoms)
-    go true h rest = (leb-true from a h, b.0, rest (suc_inj (sym (ap (λ (t : Bool). cond t (suc (rising_atoms (suc a) atoms)) 0) h) ∙ e)) b.1)
-    go false h rest = absurd (omega (arith, sym (ap (λ (t : Bool). cond t (suc (rising_atoms (suc a) atoms)) 0) h) ∙ e))
+-- all atoms are below n, and rise
+below : (n : ℕ) (atoms : List ℕ) → all_below n atoms ≡ true → AllBelow n atoms
+unfolding all_below
+below n [] e = tt
+below n (a ∷ atoms) e = let p = both (ltb a n) (all_below n atoms) e in (ltb-true a n p.0, below n atoms p.1)
 
-atoms_below : (n : ℕ) (atoms : List ℕ) (o : ℕ) → (atoms_fault n atoms o).number ≡ 0 → AllBelow n atoms
-unfolding atoms_fault
-atoms_below n atoms o e = all_below n atoms (eqb-true _ _ (unless_none _ 3 o e))
+rising : (from n : ℕ) (atoms : List ℕ) → rises from atoms ≡ true → AllBelow n atoms → Rising from n atoms
+unfolding rises
+rising from n [] e b = tt
+rising from n (a ∷ atoms) e b =
+    let p = both (leb from a) (rises (suc a) atoms) e in (leb-true from a p.0, b.0, rising (suc a) n atoms p.1 b.1)
 
--- a record without a fault is fit for the atoms seen
-pub record_fit : (file : List ℕ) (seen : Seen) (o : ℕ) → Passed file seen o → RecordFit file seen.atoms o
-unfolding range_fault row_fault decision_fault rising_fault exact_at
-record_fit file seen o p =
-    let n = seen.atoms in
-    let ranged : (k : ℕ) → kind_at file o ≡ k → (range_fault file k n o).number ≡ 0 = λ k is. subst (λ (x : ℕ). (range_fault file x n o).number ≡ 0) is p.ranges in
-    let constant = unless (leb (constant_at file o) 1) 4 o in
-    let named = atoms_fault n (row_atoms file o) o in
-    let atom = unless (ltb (decided_at file o) n) 4 o in
-    let value = unless (leb (value_at file o) 1) 4 o in
-    let rises : kind_at file o ≡ 3 → rising_atoms 0 (table_atoms file o) ≡ length (table_atoms file o) =
-    λ is. eqb-true _ _ (unless_none _ 4 o (subst (λ (x : ℕ). (rising_fault file x o).number ≡ 0) is p.rises)) ∙ sym (list_length (atom_at file o) 0 (k_at file o)) in
-    record {
-      row = λ is. (leb-true _ _ (unless_none _ 3 o (head_none constant named (ranged 2 is))), atoms_below n (row_atoms file o) o (tail_none constant named (ranged 2 is)));
-      table = λ is. (
-        sized file (kind_at file o) o is p.sizes,
-        all_rising 0 n (table_atoms file o) (rises is) (atoms_below n (table_atoms file o) o (ranged 3 is)),
-        subst (λ (x : ℕ). exact_at file x o ≡ true) is p.exact,
-      );
-      decision = λ is. (ltb-true _ _ (unless_none _ 3 o (head_none atom value (ranged 4 is))), leb-true _ _ (unless_none _ 3 o (tail_none atom value (ranged 4 is))));
-    }
+module _ {file : List ℕ} {seen : Seen} {o : ℕ} {next : Seen} (p : Passed file seen o next) where
+  is_kind : (k : Kind) → kind_at file o ≡ kind_number k → p.kind ≡ k
+  is_kind k e = same_kind p.kind k (sym p.named ∙ e)
 
--- the order of kinds: the first record is of kind 1, and no other is
-other_groups : (b c : Bool) → ◌≡◌ {A = ℕ} (cond b 2 (cond c 3 0)) 1 → ⊥
-other_groups true c e = omega arith
-other_groups false true e = omega arith
-other_groups false false e = omega arith
+  ranged : (k : Kind) → kind_at file o ≡ kind_number k → range_check file k seen.atoms o ≡ Ok tt
+  ranged k e = subst (λ j. range_check file j seen.atoms o ≡ Ok tt) (is_kind k e) p.ranges
 
-first_kind : (kind : ℕ) → group_of kind ≡ 1 → kind ≡ 1
-first_kind kind e = go (eqb kind 1) refl
-  where
-    go : (t : Bool) → eqb kind 1 ≡ t → kind ≡ 1
-    go true h = eqb-true kind 1 h
-    go false h =
-        absurd (other_groups (leb 2 kind && leb kind 3) (leb 4 kind && leb kind 6) (sym (ap (λ (t : Bool). cond t 1 (cond (leb 2 kind && leb kind 3) 2 (cond (leb 4 kind && leb kind 6) 3 0))) h) ∙ e))
+  -- a record without a fault is fit for the atoms seen
+  pub record_fit : RecordFit file seen.atoms o
+  unfolding range_check rising_check exact_at
+  record_fit =
+      let n = seen.atoms in
+      record {
+        row = λ is.
+            let c = passes (unless (leb (constant_at file o) 1) Range o) _ tt (ranged Row is) in
+            (leb-true _ _ (holds _ Range o c.0), below n _ (holds _ Range o c.1));
+        table = λ is.
+            let rise = subst (λ j. rising_check file j o ≡ Ok tt) (is_kind Table is) p.rises in (
+              sized file p.kind o (is_kind Table is) p.sizes,
+              rising 0 n _ (holds _ NotRising o rise) (below n _ (holds _ Range o (ranged Table is))),
+              subst (λ k. cond (eqb k 3) (hull_at file o).exact true ≡ true) is p.exact,
+            );
+        decision = λ is.
+            let a = passes (unless (ltb (decided_at file o) n) Range o) _ tt (ranged Decide is) in
+            (ltb-true _ _ (holds _ Range o a.0), leb-true _ _ (holds _ Range o a.1));
+      }
 
-both_true : (b c : Bool) → (b && c) ≡ true → b ≡ true
-both_true true c e = refl
-both_true false c e = e
+  -- the order of kinds: the first record is of kind 1, and no other is
+  first_group : (k : Kind) → follows None (group_of k) ≡ true → k ≡ Atoms
+  first_group Atoms e = refl
+  first_group Row e = absurd (cc)
+  first_group Table e = absurd (cc)
+  first_group Decide e = absurd (cc)
+  first_group Inspect e = absurd (cc)
+  first_group Probe e = absurd (cc)
 
-module _ (file : List ℕ) (seen : Seen) (o : ℕ) (p : Passed file seen o) where
-  follows_on : follows seen.group (group_of (kind_at file o)) ≡ true
-  unfolding kind_fault
-  follows_on = unless_none _ 1 o p.ordered
-
-  pub counts_first : seen.group ≡ 0 → kind_at file o ≡ 1
-  counts_first z =
-      first_kind (kind_at file o) (eqb-true _ _ (subst (λ (b : ℕ). follows b (group_of (kind_at file o)) ≡ true) z follows_on))
-
-  later_group : 1 ≤ seen.group → 2 ≤ group_of (kind_at file o)
-  later_group h =
-      let g = group_of (kind_at file o) in
-      let z : seen.group ≡ 0 → ⊥ = λ e. omega arith in
-      leb-true 2 g (both_true (leb 2 g) (leb seen.group g)
-      (sym (ap (λ (t : Bool). cond t (eqb g 1) (leb 2 g && leb seen.group g)) (ne_eqb seen.group 0 z)) ∙ follows_on))
-
-  pub counts_once : 1 ≤ seen.group → kind_at file o ≡ 1 → ⊥
-  counts_once h e = let g : 2 ≤ group_of 1 = subst (λ (k : ℕ). 2 ≤ group_of k) e (later_group h) in omega arith
+  pub counts_first : seen.group ≡ None → kind_at file o ≡ 1
+  counts_first e = p.named ∙ ap kind_number (first_group p.kind (subst (λ g. follows g (group_of p.kind) ≡ true) e p.follows_on))
 
   -- so the atom count is seen with the first record and stays
-  pub group_after : 1 ≤ (seen_after file seen o).group
-  unfolding seen_after
-  group_after = by (dec_le 1 seen.group)
-    where
-      by : Dec (1 ≤ seen.group) → 1 ≤ group_of (kind_at file o)
-      by (yes h) = omega (arith, later_group h)
-      by (no h) =
-          let z : seen.group ≡ 0 = omega arith in
-          subst (λ (k : ℕ). 1 ≤ group_of k) (sym (counts_first z)) (omega arith)
+  later_group : (g : Group) (k : Kind) → follows (Some g) (group_of k) ≡ true → atoms_after file k seen.atoms o ≡ seen.atoms
+  later_group g Atoms e = absurd (cc)
+  later_group g Row e = refl
+  later_group g Table e = refl
+  later_group g Decide e = refl
+  later_group g Inspect e = refl
+  later_group g Probe e = refl
 
-  pub atoms_kept : 1 ≤ seen.group → (seen_after file seen o).atoms ≡ seen.atoms
-  unfolding seen_after
-  atoms_kept h = ap (λ (t : Bool). cond t (count_at file o) seen.atoms) (ne_eqb (kind_at file o) 1 (counts_once h))
+  pub group_after : next.group ≡ Some (group_of p.kind)
+  group_after = sym (ap (λ s. s.group) p.after)
 
-  pub atoms_within : seen.atoms ≤ limit → (seen_after file seen o).atoms ≤ limit
-  unfolding seen_after range_fault count_fault
-  atoms_within few = go (eqb (kind_at file o) 1) refl
-    where
-      go : (t : Bool) → eqb (kind_at file o) 1 ≡ t → cond t (count_at file o) seen.atoms ≤ limit
-      go true z =
-          let one : kind_at file o ≡ 1 = eqb-true (kind_at file o) 1 z in
-          let none : (unless (leb (count_at file o) limit) 4 o).number ≡ 0 = subst (λ (k : ℕ). (range_fault file k seen.atoms o).number ≡ 0) one p.ranges in
-          leb-true (count_at file o) limit (unless_none (leb (count_at file o) limit) 3 o none)
-      go false z = few
+  pub atoms_kept : (g : Group) → seen.group ≡ Some g → next.atoms ≡ seen.atoms
+  atoms_kept g e =
+      sym (ap (λ s. s.atoms) p.after) ∙ later_group g p.kind (subst (λ b. follows b (group_of p.kind) ≡ true) e p.follows_on)
 
-  pub rows_within : (seen_after file seen o).rows ≤ limit
-  unfolding seen_after
-  rows_within = p.rows
+  counted : (k : Kind) → range_check file k seen.atoms o ≡ Ok tt → seen.atoms ≤ limit → atoms_after file k seen.atoms o ≤ limit
+  unfolding range_check
+  counted Atoms e few = leb-true (count_at file o) limit (holds _ Range o e)
+  counted Row e few = few
+  counted Table e few = few
+  counted Decide e few = few
+  counted Inspect e few = few
+  counted Probe e few = few
+
+  pub atoms_within : seen.atoms ≤ limit → next.atoms ≤ limit
+  atoms_within few = subst (λ s. s.atoms ≤ limit) p.after (counted p.kind p.ranges few)
+
+  pub rows_next : next.rows ≡ seen.rows + rows_at file o
+  rows_next = sym (ap (λ s. s.rows) p.after)

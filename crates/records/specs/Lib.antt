@@ -2,4 +2,3 @@
 pub mod Rows
 pub mod Check
 pub mod Promises
-pub mod Steps

@@ -1,5 +1,5 @@
 -- The theorems of `records`, as statements: what a file without a fault is. src/promises.rt holds each.
-use Rattle.std.specs.Prelude.{ℕ, ◌+◌, ◌≤◌, ◌<◌, ◌≡◌, List, [], ◌∷◌, true}
+use Rattle.std.specs.Prelude.{ℕ, ◌+◌, ◌≤◌, ◌<◌, ◌≡◌, List, [], ◌∷◌, true, Ok}
 use Rattle.hull.specs.Propose as hull
 use Rattle.embed.specs.Embed.{Rising}
 use Rattle.fit.specs.Rows.{limit}
@@ -7,6 +7,7 @@ use Rattle.format.specs.Format.{kind_at, constant_at, row_atoms, k_at, table_ato
 use Rattle.format.specs.Starts.{starts}
 use Rattle.records.specs.Rows.{hull_at, rows_at}
 use Rattle.records.specs.Check.{check_of}
+use Rattle.records.specs.declared.Checked.{Checked}
 
 abbrev pub AllBelow : ℕ → List ℕ → Type 0
 AllBelow n [] = Unit {0}
@@ -25,16 +26,16 @@ RecordsFit file n (o ∷ os) = RecordFit file n o × RecordsFit file n os
 
 -- Every record of a file that is taken is fit.
 abbrev pub FileFit : Type 0
-FileFit = (file : List ℕ) → (check_of file).number ≡ 0 → RecordsFit file (check_of file).atoms (starts file 0)
+FileFit = (file : List ℕ) (c : Checked) → check_of file ≡ Ok c → RecordsFit file c.atoms (starts file 0)
 
 -- "n is 0 to 512, rows 0 to 512"
 abbrev pub FileWithin : Type 0
-FileWithin = (file : List ℕ) → (check_of file).number ≡ 0 → ((check_of file).atoms ≤ limit) × ((check_of file).rows ≤ limit)
+FileWithin = (file : List ℕ) (c : Checked) → check_of file ≡ Ok c → (c.atoms ≤ limit) × (c.rows ≤ limit)
 
 -- The rows of a file that is taken are those that its records bring.
 abbrev pub rows_in : List ℕ → List ℕ → ℕ
 rows_in file [] = 0
-rows_in file (o ∷ os) = rows_at file (kind_at file o) o + rows_in file os
+rows_in file (o ∷ os) = rows_at file o + rows_in file os
 
 abbrev pub RowsCounted : Type 0
-RowsCounted = (file : List ℕ) → (check_of file).number ≡ 0 → (check_of file).rows ≡ rows_in file (starts file 0)
+RowsCounted = (file : List ℕ) (c : Checked) → check_of file ≡ Ok c → c.rows ≡ rows_in file (starts file 0)

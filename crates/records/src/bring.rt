@@ -1,58 +1,39 @@
 // The rows that a record brings, and their checks: a table exact (6), and not too many rows (7).
-ghost use Rattle.std.specs.Prelude.{◌≡◌, ◌+◌, ◌≤◌, leb};
+ghost use Rattle.std.specs.Prelude.{◌≡◌, ◌≤◌};
 ghost use Rattle.hull.specs.Propose as hull;
-ghost use Rattle.fit.specs.Rows.{limit};
-ghost use Rattle.format.specs.Format.{k_at};
-ghost use Rattle.records.specs.Rows.{exact_at, rows_at};
-ghost use Rattle.records.specs.Steps.{late_fault};
+ghost use Rattle.format.specs.Kind.{kind_number};
+ghost use Rattle.format.specs.Format.{kind_at, k_at};
+ghost use Rattle.records.specs.Rows.{brought, rows_after};
 
-use super::Brought;
-use record::{Fault, faults};
+use format::{Kind, Record};
+use record::{Fault, FaultKind};
 
-// What a record brings; a table's size is known to be within the limit.
-pub fn rows_in(file: &[u8], kind: usize, o: usize) -> Brought
-    requires { kind ≡ 3 → k_at file.now o ≤ hull.limit }
-    ensures exact { result.exact ≡ exact_at file.now kind o }
-    ensures rows { result.rows ≡ rows_at file.now kind o }
+// How many rows a record brings; a table's size is known to be within the limit.
+#[tactic(auto, unfolding(crate::specs::Rows::exact_at, crate::specs::Rows::rows_at))]
+pub fn rows_in(record: Record, kind: Kind) -> Result<usize, Fault>
+    requires named { kind_at record.file.now record.offset ≡ kind_number kind }
+    requires small { kind ≡ Kind.Table → k_at record.file.now record.offset ≤ hull.limit }
+    ensures { result ≡ brought record.entry.file.now record.entry.offset }
 {
-    if kind == 2 {
-        return Brought {
-            exact: true,
-            rows: 1,
-        };
-    }
-    if kind == 3 {
-        let p = format::table(file, o);
-        return Brought {
-            exact: p.hull.exact,
-            rows: p.hull.count,
-        };
-    }
-    Brought {
-        exact: true,
-        rows: 0,
+    match kind {
+        Kind::Row => Ok(1),
+        Kind::Table => {
+            let hull = record.table().unwrap();
+            FaultKind::Inexact.unless(hull.exact, record.offset)?;
+            Ok(hull.count)
+        }
+        _ => Ok(0),
     }
 }
 
-// Whether there is room for more rows.
-fn has_room(rows: usize, more: usize) -> bool
-    ensures { result ≡ leb (rows + more) limit }
+// So many rows and more, where there is room for them.
+pub fn add_rows(rows: usize, more: usize, offset: usize) -> Result<usize, Fault>
+    ensures { result ≡ rows_after rows more offset }
 {
-    if rows > 512 {
-        return false;
-    }
-    more <= 512 - rows
-}
-
-// The checks 6 and 7.
-pub fn late_fault(rows: usize, brought: Brought, o: usize) -> Fault
-    ensures { result ≡ late_fault rows brought.exact brought.rows o }
-{
-    if brought.exact {
-        return faults::unless(has_room(rows, brought.rows), 7, o);
-    }
-    Fault {
-        number: 6,
-        offset: o,
-    }
+    rows.checked_add(more)
+        .filter(|all| *all <= 512)
+        .ok_or(Fault {
+            kind: FaultKind::Rows,
+            offset,
+        })
 }

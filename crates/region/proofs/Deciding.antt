@@ -1,31 +1,37 @@
--- `decide_number`, and `hold` and `cut` at once, over the value v that an atom is given: the answer by which of the two masks has it.
+-- `number`, `decide_number` and `decide`, by the value v that an atom is given: the answer by which of the two masks has it.
 -- And the words of a region with nothing decided.
-use Prim.Native.Nat.{ℕ, zero, suc, ◌/◌, ◌%◌, ◌^◌, ◌<◌}
+use Prim.Native.Nat.{ℕ, zero, suc, ◌/◌, ◌%◌, ◌^◌, ◌≤◌, ◌<◌}
 use mathlib.Core.Path.{◌≡◌, refl, sym, ap, ap₂, ◌∙◌}
 use mathlib.Core.List.{List, map}
 use mathlib.Core.Bool.{Bool, true, false, cond, not, ◌&&◌, ◌||◌, beq, and_comm, or-false, true≢false}
 use mathlib.Core.Option.{Option, none, some}
 use native.Mathlib.Nat.{mod-lt, zero-lt-suc}
 use native.Mathlib.Omega.{arith}
-use borrow.Author.Tests.{leb-false, eqb-true, eqb-false, eq-eqb}
+use borrow.Author.Tests.{eqb-true, eqb-false, eq-eqb}
 use lib.ListN.{length, get_or, set, replicate, length-set, length-replicate}
 use lib.Seq.{ext_get_or, get_or-set_same, get_or-set_other}
 use lib.Bits.{bit_or, or_lt}
-use lib.Dec.{eqb, leb}
+use lib.Dec.{eqb, leb, ltb}
 use lib.Pow.{pow-lt}
+use Rattle.std.specs.Prelude.{Result, Ok, Err, is_some as is_there}
 use Rattle.words.specs.Set.{set_of, has}
 use Rattle.words.specs.Calls.{inserted}
 use Rattle.words.proofs.Meaning.{set_inserted, insert_adds}
 use Rattle.rows.specs.Flat.{mask_of, unpack}
+use Rattle.rows.specs.Decisions.{Decisions}
 use Rattle.rows.specs.declared.Atom.{Atom}
-use Rattle.fit.specs.Refusal.{or_refused}
+use Rattle.refusal.specs.Refusal.{answered, left}
+use Rattle.refusal.specs.declared.Refusal.{Refusal}
+use Rattle.refusal.specs.declared.Refusal.TheVariants.{Overfull, Stray, Clash, Atom as NoAtom}
 use Rattle.fit.proofs.Among.{or_right}
-use Rattle.fit.proofs.Fitting.{passed, refused_is}
 use Rattle.region.specs.Masks.{decision, decisions, is_held, is_cut, region_of}
-use Rattle.region.specs.Calls.{region_unfit, decide_unfit, said, decided, decide_of}
+use Rattle.region.specs.Visit.{next_of}
+use Rattle.region.specs.Calls.{strayed, clashes, region_check, decide_check, decided}
 use Rattle.region.specs.declared.Region.{Region}
-use Rattle.region.specs.declared.Answer.TheVariants.{Taken, Same, Against, Refused}
-use Rattle.region.proofs.Masked.{Fitting, Eight, fitting, fitting_back, decisions_length, decision_at, decide_is, decide_fit}
+use Rattle.region.specs.declared.Answer.{Answer}
+use Rattle.region.specs.declared.Answer.TheVariants.{Taken, Same, Against}
+use Rattle.region.proofs.Nexts.{above_next}
+use Rattle.region.proofs.Masked.{Fitting, Eight, fitting_back, decisions_length, decision_at, decide_fitting, decide_fits, decisions_back}
 
 -- the mask of the atoms that have the value v
 abbrev pub mask_at : Bool → Region → List ℕ
@@ -94,130 +100,146 @@ module _ (ws : List ℕ) (a : ℕ) (room : a / 64 < length ws) where
 
 -- ---- the calls
 
-both : (k x : ℕ) → or_refused k x (λ number. number) ≡ 0 → (k ≡ 0) × (x ≡ 0)
-both zero x e = (refl, e)
-both (suc k) x e = let z : ⊥ = omega arith in absurd z
+-- the checks of a region one after the other, each of its masks by itself
+pub check_is : (r : Region)
+    → region_check r
+    ≡ cond (ltb 512 r.atoms) (Err Overfull)
+    (cond (is_there (next_of (set_of r.held) r.atoms)) (Err Stray)
+    (cond (is_there (next_of (set_of r.cut) r.atoms)) (Err Stray) (cond (clashes r) (Err Clash) (Ok tt))))
+unfolding region_check
+check_is r =
+    simp (above_next r.held r.atoms, above_next r.cut r.atoms)
+    (ap (cond (ltb 512 r.atoms) (Err Overfull)) (each (is_there (next_of (set_of r.held) r.atoms)) (is_there (next_of (set_of r.cut) r.atoms)) (cond (clashes r) (Err Clash) (Ok tt))))
+  where
+    each : (b c : Bool) (k : Result Unit Refusal) → cond (b || c) (Err Stray) k ≡ cond b (Err Stray) (cond c (Err Stray) k)
+    each true c k = refl
+    each false c k = refl
 
-module _ (r : Region) (a : Atom) (k : ℕ) (is : k ≡ region_unfit r) where
-  pub number_refused : (k ≡ 0 → ⊥) → k ≡ decide_unfit r a
-  number_refused ne =
-      let last : ℕ = cond (leb r.atoms a.0) 18 0 in
-      refused_is k last (λ number. number) ne ∙ ap (λ (n : ℕ). or_refused n last (λ number. number)) is ∙ sym (decide_is r a)
+-- those of a decision: the region's, and then that of the atom
+pub decide_is : (r : Region) (a : Atom) → decide_check r a ≡ left (region_check r) (cond (leb r.atoms a.0) (Err NoAtom) (Ok tt)) (region_check r)
+unfolding decide_check region_check
+decide_is r a = each (ltb 512 r.atoms) (strayed r) (clashes r) (cond (leb r.atoms a.0) (Err NoAtom) (Ok tt))
+  where
+    each : (x y z : Bool) (k : Result Unit Refusal)
+        → let own = cond x (Err Overfull) (cond y (Err Stray) (cond z (Err Clash) (Ok tt))) in
+        cond x (Err Overfull) (cond y (Err Stray) (cond z (Err Clash) k)) ≡ left own k own
+    each true y z k = refl
+    each false true z k = refl
+    each false false true k = refl
+    each false false false k = refl
 
-  pub number_last : k ≡ 0 → cond (leb r.atoms a.0) 18 0 ≡ decide_unfit r a
-  number_last e =
-      ap (λ (n : ℕ). or_refused n (cond (leb r.atoms a.0) 18 0) (λ number. number)) (sym e ∙ is) ∙ sym (decide_is r a)
+-- an answer that is no refusal, and the region with it
+abbrev pub said : Region → Answer → Result (Answer × Region) Refusal
+said r answer = Ok (answer, r)
 
-pub decide_fitting : (r : Region) (a : Atom) → decide_unfit r a ≡ 0 → Fitting r × (a.0 < r.atoms)
-decide_fitting r a e =
-    let parts = both (region_unfit r) (cond (leb r.atoms a.0) 18 0) (sym (decide_is r a) ∙ e) in
-    (fitting r parts.0, leb-false r.atoms a.0 (passed (leb r.atoms a.0) 17 0 parts.1).0)
+-- a decision, by what is decided
+abbrev pub settled : Bool → Region → Atom → Result (Answer × Region) Refusal
+settled v r a = answered (decide_check r a) (decided (decisions r) a.0 v (get_or (decisions r) a.0 none))
 
-module _ (r : Region) (a : Atom) (k : ℕ) (is : k ≡ decide_unfit r a) where
-  pub refused : (v : Bool) → (k ≡ 0 → ⊥) → said r (Refused k) ≡ decide_of v r a
-  refused v ne =
-      let answer = decided (decisions r) a.0 v (get_or (decisions r) a.0 none) in
-      refused_is k answer (λ number. said r (Refused number)) ne ∙ ap (λ (n : ℕ). or_refused n answer (λ number. said r (Refused number))) is
+-- on a region that is known by what is decided
+pub settled_known : (v : Bool) (p : Decisions) → length p ≤ 512 → (a : Atom) → a.0 < length p
+    → settled v (region_of p) a ≡ Ok (decided p a.0 v (get_or p a.0 none))
+settled_known v p few a h =
+    let r = region_of p in
+    ap (λ check. answered check (decided (decisions r) a.0 v (get_or (decisions r) a.0 none))) (decide_fits p few a h)
+    ∙ ap (λ (q : Decisions). Ok (decided q a.0 v (get_or q a.0 none))) (decisions_back p few)
 
-  module _ (none-refuses : k ≡ 0) where
-    unrefused : decide_unfit r a ≡ 0
-    unrefused = sym is ∙ none-refuses
+module _ (r : Region) (a : Atom) (e1 : decide_check r a ≡ Ok tt) where
+  fits : Fitting r
+  fits = (decide_fitting r a e1).0
 
-    fits : Fitting r
-    fits = (decide_fitting r a unrefused).0
+  inside : a.0 < r.atoms
+  inside = (decide_fitting r a e1).1
 
-    inside : a.0 < r.atoms
-    inside = (decide_fitting r a unrefused).1
+  pub word_in : a.0 / 64 < 8
+  word_in = omega (arith, inside, fits.few)
 
-    pub word_in : a.0 / 64 < 8
-    word_in = omega (arith, inside, fits.few)
+  module _ (eight : Eight r) where
+    found : (v : Bool) (d : Option Bool) → now r a.0 ≡ d → settled v r a ≡ Ok (decided (decisions r) a.0 v d)
+    found v d e = ap (λ check. answered check (decided (decisions r) a.0 v (get_or (decisions r) a.0 none))) e1 ∙ ap (λ o. Ok (decided (decisions r) a.0 v o)) (decision_at r a.0 inside ∙ e)
 
-    module _ (eight : Eight r) where
-      found : (v : Bool) (d : Option Bool) → now r a.0 ≡ d → decide_of v r a ≡ decided (decisions r) a.0 v d
-      found v d e = decide_fit v r a unrefused ∙ ap (decided (decisions r) a.0 v) (decision_at r a.0 inside ∙ e)
+    pub same : (v : Bool) → has (set_of (mask_at v r)) a.0 ≡ true → said r Same ≡ settled v r a
+    same v e = sym (found v (some v) (is_some r a.0 v fits e) ∙ ap₂ said (fitting_back r eight fits) (equal v))
+      where
+        equal : (v : Bool) → cond (beq v v) Same Against ≡ Same
+        equal true = refl
+        equal false = refl
 
-      pub same : (v : Bool) → has (set_of (mask_at v r)) a.0 ≡ true → said r Same ≡ decide_of v r a
-      same v e = sym (found v (some v) (is_some r a.0 v fits e) ∙ ap₂ said (fitting_back r eight fits) (equal v))
-        where
-          equal : (v : Bool) → cond (beq v v) Same Against ≡ Same
-          equal true = refl
-          equal false = refl
+    pub against : (v : Bool) → has (set_of (mask_at (not v) r)) a.0 ≡ true → said r Against ≡ settled v r a
+    against v e = sym (found v (some (not v)) (is_some r a.0 (not v) fits e) ∙ ap₂ said (fitting_back r eight fits) (unequal v))
+      where
+        unequal : (v : Bool) → cond (beq (not v) v) Same Against ≡ Against
+        unequal true = refl
+        unequal false = refl
 
-      pub against : (v : Bool) → has (set_of (mask_at (not v) r)) a.0 ≡ true → said r Against ≡ decide_of v r a
-      against v e = sym (found v (some (not v)) (is_some r a.0 (not v) fits e) ∙ ap₂ said (fitting_back r eight fits) (unequal v))
-        where
-          unequal : (v : Bool) → cond (beq (not v) v) Same Against ≡ Against
-          unequal true = refl
-          unequal false = refl
+    room : (v : Bool) → a.0 / 64 < length (mask_at v r)
+    room true = omega (arith, word_in, eight.held_length)
+    room false = omega (arith, word_in, eight.cut_length)
 
-      room : (v : Bool) → a.0 / 64 < length (mask_at v r)
-      room true = omega (arith, word_in, eight.held_length)
-      room false = omega (arith, word_in, eight.cut_length)
+    eight_taking : (v : Bool) → Eight (taking v r a.0)
+    eight_taking true = record {
+      held_length = more_length r.held a.0 (room true) ∙ eight.held_length;
+      cut_length = eight.cut_length;
+      held_fits = more_fits r.held a.0 (room true) eight.held_fits;
+      cut_fits = eight.cut_fits;
+    }
+    eight_taking false = record {
+      held_length = eight.held_length;
+      cut_length = more_length r.cut a.0 (room false) ∙ eight.cut_length;
+      held_fits = eight.held_fits;
+      cut_fits = more_fits r.cut a.0 (room false) eight.cut_fits;
+    }
 
-      eight_taking : (v : Bool) → Eight (taking v r a.0)
-      eight_taking true = record {
-        held_length = more_length r.held a.0 (room true) ∙ eight.held_length;
-        cut_length = eight.cut_length;
-        held_fits = more_fits r.held a.0 (room true) eight.held_fits;
-        cut_fits = eight.cut_fits;
-      }
-      eight_taking false = record {
-        held_length = eight.held_length;
-        cut_length = more_length r.cut a.0 (room false) ∙ eight.cut_length;
-        held_fits = eight.held_fits;
-        cut_fits = more_fits r.cut a.0 (room false) eight.cut_fits;
-      }
+    fits_taking : (v : Bool) → has (set_of (mask_at (not v) r)) a.0 ≡ false → Fitting (taking v r a.0)
+    fits_taking true e = record {
+      few = fits.few;
+      held_below = more_below r.held a.0 (room true) r.atoms inside fits.held_below;
+      cut_below = fits.cut_below;
+      apart = more_apart r.held a.0 (room true) r.cut fits.apart e;
+    }
+    fits_taking false e = record {
+      few = fits.few;
+      held_below = fits.held_below;
+      cut_below = more_below r.cut a.0 (room false) r.atoms inside fits.cut_below;
+      apart = λ i.
+          and_comm (has (set_of r.held) i) (has (set_of (inserted r.cut a.0)) i)
+          ∙ more_apart r.cut a.0 (room false) r.held
+          (λ j. and_comm (has (set_of r.cut) j) (has (set_of r.held) j) ∙ fits.apart j) e i;
+    }
 
-      fits_taking : (v : Bool) → has (set_of (mask_at (not v) r)) a.0 ≡ false → Fitting (taking v r a.0)
-      fits_taking true e = record {
-        few = fits.few;
-        held_below = more_below r.held a.0 (room true) r.atoms inside fits.held_below;
-        cut_below = fits.cut_below;
-        apart = more_apart r.held a.0 (room true) r.cut fits.apart e;
-      }
-      fits_taking false e = record {
-        few = fits.few;
-        held_below = fits.held_below;
-        cut_below = more_below r.cut a.0 (room false) r.atoms inside fits.cut_below;
-        apart = λ i.
-            and_comm (has (set_of r.held) i) (has (set_of (inserted r.cut a.0)) i)
-            ∙ more_apart r.cut a.0 (room false) r.held
-            (λ j. and_comm (has (set_of r.cut) j) (has (set_of r.held) j) ∙ fits.apart j) e i;
-      }
+    now_taken : (v : Bool) → has (set_of (mask_at v (taking v r a.0))) a.0 ≡ true
+    now_taken true = more_same r.held a.0 (room true)
+    now_taken false = more_same r.cut a.0 (room false)
 
-      now_taken : (v : Bool) → has (set_of (mask_at v (taking v r a.0))) a.0 ≡ true
-      now_taken true = more_same r.held a.0 (room true)
-      now_taken false = more_same r.cut a.0 (room false)
+    now_other : (v : Bool) (i : ℕ) → eqb i a.0 ≡ false → now (taking v r a.0) i ≡ now r i
+    now_other true i e = ap (λ (b : Bool). decision b (has (set_of r.cut) i)) (more_other r.held a.0 (room true) i e)
+    now_other false i e = ap (decision (has (set_of r.held) i)) (more_other r.cut a.0 (room false) i e)
 
-      now_other : (v : Bool) (i : ℕ) → eqb i a.0 ≡ false → now (taking v r a.0) i ≡ now r i
-      now_other true i e = ap (λ (b : Bool). decision b (has (set_of r.cut) i)) (more_other r.held a.0 (room true) i e)
-      now_other false i e = ap (decision (has (set_of r.held) i)) (more_other r.cut a.0 (room false) i e)
+    decisions_taking : (v : Bool) → has (set_of (mask_at (not v) r)) a.0 ≡ false → decisions (taking v r a.0) ≡ set (decisions r) a.0 (some v)
+    decisions_taking v e =
+        let long : length (decisions (taking v r a.0)) ≡ r.atoms = decisions_length (taking v r a.0) in
+        let long' : length (set (decisions r) a.0 (some v)) ≡ r.atoms = length-set (decisions r) a.0 (some v) ∙ decisions_length r in
+        ext_get_or none _ _ (long ∙ sym long') (λ i h. go i (omega (arith, long)) (eqb i a.0) refl)
+      where
+        at : get_or (decisions (taking v r a.0)) a.0 none ≡ get_or (set (decisions r) a.0 (some v)) a.0 none
+        at =
+            let lt : a.0 < length (decisions r) = omega (arith, decisions_length r, inside) in
+            decision_at (taking v r a.0) a.0 inside ∙ is_some (taking v r a.0) a.0 v (fits_taking v e) (now_taken v)
+            ∙ sym (get_or-set_same (decisions r) a.0 (some v) none lt)
 
-      decisions_taking : (v : Bool) → has (set_of (mask_at (not v) r)) a.0 ≡ false → decisions (taking v r a.0) ≡ set (decisions r) a.0 (some v)
-      decisions_taking v e =
-          let long : length (decisions (taking v r a.0)) ≡ r.atoms = decisions_length (taking v r a.0) in
-          let long' : length (set (decisions r) a.0 (some v)) ≡ r.atoms = length-set (decisions r) a.0 (some v) ∙ decisions_length r in
-          ext_get_or none _ _ (long ∙ sym long') (λ i h. go i (omega (arith, long)) (eqb i a.0) refl)
-        where
-          at : get_or (decisions (taking v r a.0)) a.0 none ≡ get_or (set (decisions r) a.0 (some v)) a.0 none
-          at =
-              let lt : a.0 < length (decisions r) = omega (arith, decisions_length r, inside) in
-              decision_at (taking v r a.0) a.0 inside ∙ is_some (taking v r a.0) a.0 v (fits_taking v e) (now_taken v)
-              ∙ sym (get_or-set_same (decisions r) a.0 (some v) none lt)
+        go : (i : ℕ) → i < r.atoms → (t : Bool) → eqb i a.0 ≡ t
+            → get_or (decisions (taking v r a.0)) i none ≡ get_or (set (decisions r) a.0 (some v)) i none
+        go i lt true s = rw (eqb-true i a.0 s) at
+        go i lt false s =
+            decision_at (taking v r a.0) i lt ∙ now_other v i s ∙ sym (decision_at r i lt)
+            ∙ sym (get_or-set_other (decisions r) a.0 i (some v) none (eqb-false i a.0 s))
 
-          go : (i : ℕ) → i < r.atoms → (t : Bool) → eqb i a.0 ≡ t
-              → get_or (decisions (taking v r a.0)) i none ≡ get_or (set (decisions r) a.0 (some v)) i none
-          go i lt true s = rw (eqb-true i a.0 s) at
-          go i lt false s =
-              decision_at (taking v r a.0) i lt ∙ now_other v i s ∙ sym (decision_at r i lt)
-              ∙ sym (get_or-set_other (decisions r) a.0 i (some v) none (eqb-false i a.0 s))
-
-      pub taken : (v : Bool) → has (set_of (mask_at v r)) a.0 ≡ false → has (set_of (mask_at (not v) r)) a.0 ≡ false
-          → said (taking v r a.0) Taken ≡ decide_of v r a
-      taken v e d =
-          let back : region_of (set (decisions r) a.0 (some v)) ≡ taking v r a.0 =
-          ap region_of (sym (decisions_taking v d)) ∙ fitting_back (taking v r a.0) (eight_taking v) (fits_taking v d) in
-          sym (found v none (is_none r a.0 v e d) ∙ ap (λ (s : Region). said s Taken) back)
+    pub taken : (v : Bool) → has (set_of (mask_at v r)) a.0 ≡ false → has (set_of (mask_at (not v) r)) a.0 ≡ false
+        → said (taking v r a.0) Taken ≡ settled v r a
+    taken v e d =
+        let back : region_of (set (decisions r) a.0 (some v)) ≡ taking v r a.0 =
+        ap region_of (sym (decisions_taking v d)) ∙ fitting_back (taking v r a.0) (eight_taking v) (fits_taking v d) in
+        sym (found v none (is_none r a.0 v e d) ∙ ap (λ (s : Region). said s Taken) back)
 
 -- ---- nothing decided
 

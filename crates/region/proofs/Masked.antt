@@ -2,7 +2,7 @@
 use Prim.Native.Nat.{ℕ, zero, suc, ◌^◌, ◌≤◌, ◌<◌}
 use mathlib.Core.Path.{◌≡◌, refl, sym, ap, ap₂, ◌∙◌}
 use mathlib.Core.List.{List, [], ◌∷◌, map, zip_with}
-use mathlib.Core.Bool.{Bool, true, false, cond, ◌&&◌}
+use mathlib.Core.Bool.{Bool, true, false, ◌&&◌}
 use mathlib.Core.Option.{Option, none, some}
 use native.Mathlib.Nat.{lt_of_lt_of_le}
 use native.Mathlib.Omega.{arith}
@@ -19,11 +19,12 @@ use Rattle.rows.specs.Flat.{atoms_of, mask_of, unpack}
 use Rattle.rows.specs.declared.Atom.{Atom}
 use Rattle.rows.proofs.Digits.{atoms_length, atoms_has, atoms_mask, mask_lt, packed_unpack, atoms_fix_words}
 use Rattle.rows.proofs.Rowwise.{zip_length, mask_has}
-use Rattle.fit.specs.Refusal.{refusal, or_refused}
+use Rattle.std.specs.Prelude.{Ok}
+use Rattle.refusal.specs.Refusal.{answered, left}
 use Rattle.fit.proofs.Among.{or_none}
 use Rattle.fit.proofs.Fitting.{passed}
 use Rattle.region.specs.Masks.{decision, decisions_of, decisions, is_held, is_cut, region_of}
-use Rattle.region.specs.Calls.{strayed, clashes, region_checks, region_unfit, decide_unfit, decided, decide_of}
+use Rattle.region.specs.Calls.{strayed, clashes, region_check, decide_check, decided, decide_of}
 use Rattle.region.specs.declared.Region.{Region}
 
 -- ---- the decisions of two lists
@@ -87,13 +88,13 @@ pub record Fitting (r : Region) : Type 0 where
   pub cut_below : set_of r.cut < 2 ^ r.atoms
   pub apart : (a : ℕ) → (has (set_of r.held) a && has (set_of r.cut) a) ≡ false
 
-pub fitting : (r : Region) → region_unfit r ≡ 0 → Fitting r
-unfolding region_unfit
+pub fitting : (r : Region) → region_check r ≡ Ok tt → Fitting r
+unfolding region_check
 fitting r e =
-    let atoms = passed (ltb 512 r.atoms) 9 _ e in
-    let stray = passed (strayed r) 10 _ atoms.1 in
+    let atoms = passed (ltb 512 r.atoms) _ _ e in
+    let stray = passed (strayed r) _ _ atoms.1 in
     let below = or_none _ _ stray.0 in
-    let none : bit_and (set_of r.held) (set_of r.cut) ≡ 0 = eqb-true _ 0 (not-false _ (passed (clashes r) 11 0 stray.1).0) in
+    let none : bit_and (set_of r.held) (set_of r.cut) ≡ 0 = eqb-true _ 0 (not-false _ (passed (clashes r) _ _ stray.1).0) in
     record {
       few = ltb-false 512 r.atoms atoms.0;
       held_below = leb-false (2 ^ r.atoms) (set_of r.held) below.0;
@@ -101,8 +102,8 @@ fitting r e =
       apart = λ a. sym (has_and (set_of r.held) (set_of r.cut) a) ∙ ap (λ (x : ℕ). has x a) none ∙ has_none a;
     }
 
-pub fit_region : (r : Region) → Fitting r → region_unfit r ≡ 0
-unfolding region_unfit
+pub fit_region : (r : Region) → Fitting r → region_check r ≡ Ok tt
+unfolding region_check
 fit_region r f =
     let none : bit_and (set_of r.held) (set_of r.cut) ≡ 0 =
     same_atoms _ 0 (λ a. has_and (set_of r.held) (set_of r.cut) a ∙ f.apart a ∙ sym (has_none a)) in
@@ -111,26 +112,24 @@ fit_region r f =
 pub map_cut : (r : Region) → Fitting r → map is_cut (decisions r) ≡ atoms_of r.atoms (set_of r.cut)
 map_cut r f = map_atoms r is_cut (set_of r.cut) (λ a h. cut_of (has (set_of r.held) a) (has (set_of r.cut) a) (f.apart a))
 
--- the checks that a call has after a region's own
-checks : (x y z : Bool) (k : ℕ) → cond x 10 (cond y 11 (cond z 12 k)) ≡ or_refused (cond x 10 (cond y 11 (cond z 12 0))) k (λ number. number)
-checks true y z k = refl
-checks false true z k = refl
-checks false false true k = refl
-checks false false false k = refl
-
-checks_more : (r : Region) (more : List (ℕ × Bool)) → refusal (region_checks r more) ≡ or_refused (region_unfit r) (refusal more) (λ number. number)
-unfolding region_unfit
-checks_more r more = checks (ltb 512 r.atoms) (strayed r) (clashes r) (refusal more)
-
 -- those of a decision
-pub decide_is : (r : Region) (a : Atom) → decide_unfit r a ≡ or_refused (region_unfit r) (cond (leb r.atoms a.0) 18 0) (λ number. number)
-unfolding decide_unfit
-decide_is r a = checks_more r ((18, leb r.atoms a.0) ∷ [])
+pub decide_fitting : (r : Region) (a : Atom) → decide_check r a ≡ Ok tt → Fitting r × (a.0 < r.atoms)
+unfolding region_check decide_check
+decide_fitting r a e =
+    let atoms = passed (ltb 512 r.atoms) _ _ e in
+    let stray = passed (strayed r) _ _ atoms.1 in
+    let clash = passed (clashes r) _ _ stray.1 in
+    let last = passed (leb r.atoms a.0) _ _ clash.1 in
+    let own : region_check r ≡ Ok tt = simp (atoms.0, stray.0, clash.0) in
+    (fitting r own, leb-false r.atoms a.0 last.0)
 
-decide_unrefused : (r : Region) (a : Atom) → region_unfit r ≡ 0 → a.0 < r.atoms → decide_unfit r a ≡ 0
+decide_unrefused : (r : Region) (a : Atom) → region_check r ≡ Ok tt → a.0 < r.atoms → decide_check r a ≡ Ok tt
+unfolding region_check decide_check
 decide_unrefused r a fit lt =
-    decide_is r a ∙ ap (λ (k : ℕ). or_refused k (cond (leb r.atoms a.0) 18 0) (λ number. number)) fit
-    ∙ ap (λ (t : Bool). cond t 18 0) (lt-leb r.atoms a.0 lt)
+    let atoms = passed (ltb 512 r.atoms) _ _ fit in
+    let stray = passed (strayed r) _ _ atoms.1 in
+    let clash = passed (clashes r) _ _ stray.1 in
+    simp (atoms.0, stray.0, clash.0, lt-leb r.atoms a.0 lt)
 
 -- ---- from decisions to words and back
 
@@ -187,26 +186,26 @@ pub decisions_back : (p : Decisions) → length p ≤ 512 → decisions (region_
 unfolding decisions_of region_of
 decisions_back p few = ap₂ (zip_with decision) (atoms_map p few is_held) (atoms_map p few is_cut) ∙ decision_back p
 
-pub region_fits : (p : Decisions) → length p ≤ 512 → region_unfit (region_of p) ≡ 0
+pub region_fits : (p : Decisions) → length p ≤ 512 → region_check (region_of p) ≡ Ok tt
 region_fits p few = fit_region (region_of p) (fits_of p few)
 
 -- a decision that is not refused, and one on a region that is known by what is decided
-answered : {A : Type 0} (k : ℕ) (answer : A) (refused : ℕ → A) → k ≡ 0 → or_refused k answer refused ≡ answer
-answered zero answer refused e = refl
-answered (suc k) answer refused e = let z : ⊥ = omega arith in absurd z
+pub decide_fit : (v : Bool) (r : Region) (a : Atom) → decide_check r a ≡ Ok tt
+    → let d = decided (decisions r) a.0 v (get_or (decisions r) a.0 none) in decide_of v r a ≡ (Ok d.0, d.1)
+decide_fit v r a e =
+    let d = decided (decisions r) a.0 v (get_or (decisions r) a.0 none) in
+    ap (λ check. (answered check d.0, left check d.1 r)) e
 
-pub decide_fit : (v : Bool) (r : Region) (a : Atom) → decide_unfit r a ≡ 0 → decide_of v r a ≡ decided (decisions r) a.0 v (get_or (decisions r) a.0 none)
-decide_fit v r a e = answered (decide_unfit r a) _ _ e
-
-pub decide_fits : (p : Decisions) → length p ≤ 512 → (a : Atom) → a.0 < length p → decide_unfit (region_of p) a ≡ 0
+pub decide_fits : (p : Decisions) → length p ≤ 512 → (a : Atom) → a.0 < length p → decide_check (region_of p) a ≡ Ok tt
 unfolding region_of
 decide_fits p few a h = decide_unrefused (region_of p) a (region_fits p few) h
 
 pub decide_known : (v : Bool) (p : Decisions) → length p ≤ 512 → (a : Atom) → a.0 < length p
-    → decide_of v (region_of p) a ≡ decided p a.0 v (get_or p a.0 none)
+    → let d = decided p a.0 v (get_or p a.0 none) in decide_of v (region_of p) a ≡ (Ok d.0, d.1)
 unfolding region_of
 decide_known v p few a h =
-    decide_fit v (region_of p) a (decide_fits p few a h) ∙ ap (λ (q : Decisions). decided q a.0 v (get_or q a.0 none)) (decisions_back p few)
+    decide_fit v (region_of p) a (decide_fits p few a h)
+    ∙ ap (λ (q : Decisions). let d = decided q a.0 v (get_or q a.0 none) in (Ok d.0, d.1)) (decisions_back p few)
 
 -- ---- from words to decisions and back
 
@@ -228,5 +227,5 @@ fitting_back r w f =
     ap (λ (l : List Bool). unpack 64 8 (mask_of l)) (map_cut r f) ∙ words_back r.atoms r.cut w.cut_length w.cut_fits f.cut_below in
     ap₂ (λ (n : ℕ) (l : List ℕ × List ℕ). record { atoms = n; held = l.0; cut = l.1 }) (decisions_length r) (ap₂ (λ (h c : List ℕ). (h, c)) held cut)
 
-pub region_back : (r : Region) → Eight r → region_unfit r ≡ 0 → region_of (decisions r) ≡ r
+pub region_back : (r : Region) → Eight r → region_check r ≡ Ok tt → region_of (decisions r) ≡ r
 region_back r w e = fitting_back r w (fitting r e)

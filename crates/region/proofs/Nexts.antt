@@ -3,21 +3,21 @@ use Prim.Native.Nat.{ℕ, ◌+◌, ◌-◌, ◌*◌, ◌/◌, ◌%◌, ◌^◌, 
 use mathlib.Core.Path.{◌≡◌, refl, sym, ap, subst, ◌∙◌}
 use mathlib.Core.List.{List}
 use mathlib.Core.Bool.{Bool, true, false, cond, not}
-use native.Mathlib.Nat.{mod-lt, mod-eq_of_lt, mul_assoc, suc-mul, zero-add, zero-mul, zero-div, mul-le-mul_right, mul-add-div_right, mul-one, lt_of_le_of_lt}
+use native.Mathlib.Nat.{mod-eq_of_lt, mul_assoc, suc-mul, zero-add, zero-mul, zero-div, mul-le-mul_right, mul-add-div_right, mul-one, lt_of_le_of_lt}
 use native.Mathlib.Numerals.{add-one}
 use native.Mathlib.Omega.{arith}
 use borrow.Author.Tests.{eqb-true, eqb-false, eq-eqb, ne_eqb}
 use lib.ListN.{length, get_or, drop}
 use lib.Dec.{leb, eqb}
 use lib.Count.{count_trailing_zeros}
-use lib.Pow.{pow_pos, pow-add, shr-shr, shr_le, shr_lt, split}
+use lib.Pow.{pow_pos, pow-add, shr-shr, shr_le, shr_lt}
 use Rattle.words.specs.Set.{packed, set_of, has, low}
 use Rattle.words.proofs.Packed.{left_cons, left_none}
 use Rattle.words.proofs.Lowest.{low_word, low_words}
 use Rattle.words.proofs.Meaning.{low_lowest, has_none}
-use Rattle.rows.proofs.Rowwise.{has_below}
 use Rattle.fit.proofs.Stray.{packed_shr, above_from}
-use Rattle.region.specs.Masks.{next_of}
+use Rattle.std.specs.Prelude.{Option, Some, None, is_some}
+use Rattle.region.specs.Visit.{next_of, Clear}
 
 -- ---- what it means
 
@@ -28,12 +28,12 @@ module _ (x from : ℕ) where
       let e : i ≡ from + (i - from) = omega arith in
       ap (has x) e ∙ ap (λ (n : ℕ). eqb (n % 2) 1) (sym (shr-shr x from (i - from)))
 
-  -- whatever holds of 512 where no atom is left, and of the lowest one where some are, holds of the next
-  by_next : (P : ℕ → Type 0) → (x / 2 ^ from ≡ 0 → P 512) → (0 < x / 2 ^ from → P (from + low (x / 2 ^ from))) → P (next_of x from)
+  -- whatever holds of none where no atom is left, and of the lowest one where some are, holds of the next
+  by_next : (P : Option ℕ → Type 0) → (x / 2 ^ from ≡ 0 → P None) → (0 < x / 2 ^ from → P (Some (from + low (x / 2 ^ from)))) → P (next_of x from)
   unfolding next_of
   by_next P none some = go (eqb (x / 2 ^ from) 0) refl
     where
-      go : (b : Bool) → eqb (x / 2 ^ from) 0 ≡ b → P (cond b 512 (from + low (x / 2 ^ from)))
+      go : (b : Bool) → eqb (x / 2 ^ from) 0 ≡ b → P (cond b None (Some (from + low (x / 2 ^ from))))
       go true e = none (eqb-true _ _ e)
       go false e = some (omega (arith, eqb-false (x / 2 ^ from) 0 e))
 
@@ -45,61 +45,40 @@ module _ (x from : ℕ) where
       let e : from + low (x / 2 ^ from) - from ≡ low (x / 2 ^ from) = omega arith in
       has_from _ (omega arith) ∙ ap (has (x / 2 ^ from)) e ∙ (low_lowest _ h).0
 
-  -- the next atom is not below the place; one below 512 is in the set; none from the place on lies below it
-  pub next_from : from ≤ 512 → from ≤ next_of x from
-  next_from l = by_next (λ a. from ≤ a) (λ e. l) (λ h. omega arith)
+  -- where there is no next atom, none is left
+  pub next_none : next_of x from ≡ None → (end : ℕ) → Clear x from end
+  next_none =
+      by_next (λ r. r ≡ None → (end : ℕ) → Clear x from end) (λ e told end i h l. none_from e i h) (λ h told. cc)
 
-  pub next_found : next_of x from < 512 → (from ≤ next_of x from) × (has x (next_of x from) ≡ true)
-  next_found =
-      by_next (λ a. a < 512 → (from ≤ a) × (has x a ≡ true))
-      (λ e l. let z : ⊥ = omega arith in absurd z)
-      (λ h l. (omega arith, has_low h))
+  -- the next atom is not below the place, it is in the set, and none from the place on lies below it
+  pub next_some : (a : ℕ) → next_of x from ≡ Some a → (from ≤ a) × (has x a ≡ true) × Clear x from a
+  next_some a =
+      by_next (λ r. r ≡ Some a → (from ≤ a) × (has x a ≡ true) × Clear x from a) (λ e told. cc) (λ h told.
+      let is : from + low (x / 2 ^ from) ≡ a = cc in
+      (omega arith, ap (has x) (sym is) ∙ has_low h, λ i l under. has_from i l ∙ (low_lowest _ h).1 (i - from) (omega arith)))
 
-  pub next_passed : (i : ℕ) → from ≤ i → i < next_of x from → has x i ≡ false
-  next_passed i h =
-      by_next (λ a. i < a → has x i ≡ false) (λ e l. none_from e i h)
-      (λ some l. has_from i h ∙ (low_lowest _ some).1 (i - from) (omega arith))
-
-  next_empty : x / 2 ^ from ≡ 0 → 512 ≡ next_of x from
-  next_empty e = by_next (λ a. 512 ≡ a) (λ z. refl) (λ h. let z : ⊥ = omega arith in absurd z)
+  next_empty : x / 2 ^ from ≡ 0 → None ≡ next_of x from
+  next_empty e = by_next (λ r. None ≡ r) (λ z. refl) (λ h. let z : ⊥ = omega arith in absurd z)
 
   -- a word of k atoms that is not empty, under words p and s atoms above the place
-  next_in : (k p w s : ℕ) → x / 2 ^ from ≡ (p * 2 ^ k + w) * 2 ^ s → 0 < w → w < 2 ^ k → from + (s + count_trailing_zeros k w) ≡ next_of x from
+  next_in : (k p w s : ℕ) → x / 2 ^ from ≡ (p * 2 ^ k + w) * 2 ^ s → 0 < w → w < 2 ^ k
+      → Some (from + (s + count_trailing_zeros k w)) ≡ next_of x from
   next_in k p w s e some fits =
       let one : 1 ≤ p * 2 ^ k + w = omega arith in
-      by_next (λ a. from + (s + count_trailing_zeros k w) ≡ a)
+      by_next (λ r. Some (from + (s + count_trailing_zeros k w)) ≡ r)
       (λ none. let z : ⊥ = omega (arith, e, pow_pos s, mul-le-mul_right (2 ^ s) one) in absurd z)
-      (λ h. ap (λ (n : ℕ). from + n) (sym (ap low e ∙ low_words k p w s some fits)))
+      (λ h. ap (λ (n : ℕ). Some (from + n)) (sym (ap low e ∙ low_words k p w s some fits)))
 
-  -- in a set of atoms below 512
-  module _ (fits : x < 2 ^ 512) where
-    low_below : 0 < x / 2 ^ from → from + low (x / 2 ^ from) < 512
-    low_below h = has_below 512 x _ fits (has_low h)
-
-    pub next_le : next_of x from ≤ 512
-    next_le = by_next (λ a. a ≤ 512) (λ e. omega arith) (λ h. omega (arith, low_below h))
-
-    next_last : eqb (x / 2 ^ from) 0 ≡ eqb (next_of x from) 512
-    next_last =
-        by_next (λ a. eqb (x / 2 ^ from) 0 ≡ eqb a 512) (λ e. eq-eqb _ 0 e)
-        (λ h. ne_eqb (x / 2 ^ from) 0 (λ e. omega (arith, e, h)) ∙ sym (ne_eqb (from + low (x / 2 ^ from)) 512 (λ e. omega (arith, low_below h))))
+  next_told : not (eqb (x / 2 ^ from) 0) ≡ is_some (next_of x from)
+  next_told =
+      by_next (λ r. not (eqb (x / 2 ^ from) 0) ≡ is_some r) (λ e. ap not (eq-eqb _ 0 e)) (λ h. ap not (ne_eqb (x / 2 ^ from) 0 (λ e. omega (arith, e, h))))
 
 -- ---- words of k atoms
 
-pub packed_below : (k : ℕ) (ws : List ℕ) → packed k ws < 2 ^ (length ws * k)
-packed_below k ws =
-    let n = length ws * k in
-    let none : packed k ws / 2 ^ n ≡ 0 = packed_shr k ws (length ws) ∙ left_none k ws (length ws) (omega arith) in
-    let high : packed k ws / 2 ^ n * 2 ^ n ≡ 0 = ap (λ (q : ℕ). q * 2 ^ n) none ∙ zero-mul _ in
-    omega (arith, split (packed k ws) n, mod-lt (packed k ws) (pow_pos n))
-
-pub eight_below : (ws : List ℕ) → length ws ≡ 8 → set_of ws < 2 ^ 512
-eight_below ws e = rw e at (packed_below 64 ws)
-
--- eight words have an atom from n on just where the next one is not 512
-pub above_next : (ws : List ℕ) → length ws ≡ 8 → (n : ℕ) → leb (2 ^ n) (set_of ws) ≡ not (eqb (next_of (set_of ws) n) 512)
-above_next ws e n =
-    ap (λ (m : ℕ). leb (2 ^ m) (set_of ws)) (sym (zero-add n)) ∙ above_from 64 ws 0 n ∙ ap not (next_last (set_of ws) n (eight_below ws e))
+-- words have an atom from n on just where there is a next one
+pub above_next : (ws : List ℕ) (n : ℕ) → leb (2 ^ n) (set_of ws) ≡ is_some (next_of (set_of ws) n)
+above_next ws n =
+    ap (λ (m : ℕ). leb (2 ^ m) (set_of ws)) (sym (zero-add n)) ∙ above_from 64 ws 0 n ∙ next_told (set_of ws) n
 
 up : (p a b : ℕ) → p * 2 ^ a * 2 ^ b ≡ p * 2 ^ (a + b)
 up p a b = mul_assoc p (2 ^ a) (2 ^ b) ∙ ap (λ (n : ℕ). p * n) (sym (pow-add 2 a b))
@@ -113,7 +92,7 @@ module _ (k : ℕ) (ws : List ℕ) (from : ℕ) where
     pub reached : from ≤ i * k
     pub rest : packed k ws / 2 ^ from ≡ packed k (drop i ws) * 2 ^ (i * k - from)
 
-  pub past_none : (i : ℕ) → length ws ≤ i → Past i → 512 ≡ next_of (packed k ws) from
+  pub past_none : (i : ℕ) → length ws ≤ i → Past i → None ≡ next_of (packed k ws) from
   past_none i h past = next_empty (packed k ws) from (past.rest ∙ ap (λ (n : ℕ). n * 2 ^ (i * k - from)) (left_none k ws i h) ∙ zero-mul _)
 
   module _ (i : ℕ) (h : i < length ws) (fits : get_or ws i 0 < 2 ^ k) where
@@ -130,11 +109,11 @@ module _ (k : ℕ) (ws : List ℕ) (from : ℕ) where
           rest = past.rest ∙ ap (λ (n : ℕ). n * 2 ^ (i * k - from)) (left ∙ empty) ∙ up p k (i * k - from) ∙ ap (λ (n : ℕ). p * 2 ^ n) above;
         }
 
-    pub past_found : Past i → 0 < get_or ws i 0 → i * k + count_trailing_zeros k (get_or ws i 0) ≡ next_of (packed k ws) from
+    pub past_found : Past i → 0 < get_or ws i 0 → Some (i * k + count_trailing_zeros k (get_or ws i 0)) ≡ next_of (packed k ws) from
     past_found past some =
         let t = count_trailing_zeros k (get_or ws i 0) in
         let at : i * k + t ≡ from + (i * k - from + t) = omega (arith, past.reached) in
-        at
+        ap Some at
         ∙ next_in (packed k ws) from k (packed k (drop (i + 1) ws)) (get_or ws i 0) (i * k - from) (past.rest ∙ ap (λ (n : ℕ). n * 2 ^ (i * k - from)) left) some fits
 
   -- ---- the place is atom u of word i
@@ -144,7 +123,7 @@ module _ (k : ℕ) (ws : List ℕ) (from : ℕ) where
     in_word =
         ap (λ (n : ℕ). packed k ws / 2 ^ n) at ∙ sym (shr-shr (packed k ws) (i * k) u) ∙ ap (λ (n : ℕ). n / 2 ^ u) (packed_shr k ws i)
 
-    pub start_none : length ws ≤ i → 512 ≡ next_of (packed k ws) from
+    pub start_none : length ws ≤ i → None ≡ next_of (packed k ws) from
     start_none h = next_empty (packed k ws) from (in_word ∙ ap (λ (n : ℕ). n / 2 ^ u) (left_none k ws i h) ∙ zero-div _)
 
     module _ (below : u < k) (h : i < length ws) (fits : get_or ws i 0 < 2 ^ k) where
@@ -162,10 +141,10 @@ module _ (k : ℕ) (ws : List ℕ) (from : ℕ) where
           let above : k - u ≡ (i + 1) * k - from = omega (arith, next_word i) in
           record { reached = omega (arith, next_word i); rest = cut ∙ empty ∙ ap (λ (n : ℕ). p * 2 ^ n) above }
 
-      pub start_found : 0 < get_or ws i 0 / 2 ^ u → from + count_trailing_zeros k (get_or ws i 0 / 2 ^ u) ≡ next_of (packed k ws) from
+      pub start_found : 0 < get_or ws i 0 / 2 ^ u → Some (from + count_trailing_zeros k (get_or ws i 0 / 2 ^ u)) ≡ next_of (packed k ws) from
       start_found some =
           let w = get_or ws i 0 / 2 ^ u in
           let e : k ≡ k - u + u = omega arith in
           let short : w < 2 ^ (k - u) = shr_lt (k - u) u (subst (λ (n : ℕ). get_or ws i 0 < 2 ^ n) e fits) in
-          ap (λ (n : ℕ). from + n) (sym (low_word k w some (lt_of_le_of_lt (shr_le (get_or ws i 0) u) fits)) ∙ low_word (k - u) w some short ∙ sym (zero-add _))
+          ap (λ (n : ℕ). Some (from + n)) (sym (low_word k w some (lt_of_le_of_lt (shr_le (get_or ws i 0) u) fits)) ∙ low_word (k - u) w some short ∙ sym (zero-add _))
           ∙ next_in (packed k ws) from (k - u) (packed k (drop (i + 1) ws)) w 0 (cut ∙ sym (mul-one _)) some short

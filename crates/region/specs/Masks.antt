@@ -1,8 +1,8 @@
 -- A region's words, and the decisions that they stand for: "Region. n, held and cut masks."
-use Rattle.std.specs.Prelude.{ℕ, ◌+◌, ◌/◌, ◌^◌, Bool, true, false, cond, length, eqb}
+use Rattle.std.specs.Prelude.{ℕ, Bool, true, false, length}
 use mathlib.Core.List.{map, zip_with}
 use Rattle.std.proofs.Math.Option.{Option, none, some}
-use Rattle.words.specs.Set.{set_of, low}
+use Rattle.words.specs.Set.{set_of}
 use Rattle.rows.specs.Decisions.{Decisions}
 use Rattle.rows.specs.Flat.{atoms_of, mask_of, unpack}
 use Rattle.region.specs.declared.Region.{Region}
@@ -36,7 +36,3 @@ is_open (some b) = false
 -- And back: the region of up to 512 atoms on which this is decided.
 unfoldable pub region_of : Decisions → Region
 region_of p = record { atoms = length p; held = unpack 64 8 (mask_of (map is_held p)); cut = unpack 64 8 (mask_of (map is_cut p)) }
-
--- The lowest atom from a place on in a set of atoms below 512, or 512.
-unfoldable pub next_of : ℕ → ℕ → ℕ
-next_of x from = cond (eqb (x / 2 ^ from) 0) 512 (from + low (x / 2 ^ from))

@@ -2,18 +2,21 @@
 // Every call is total: an unfit region, or an atom not below n, is refused with document 01's number and comes back as passed.
 #![tactic(auto)]
 
-ghost use Rattle.std.specs.Prelude.{◌≡◌, cond, not, eqb};
+ghost use Rattle.std.specs.Prelude.{◌≡◌, ◌-◌, cond, not, get_or, eqb};
+ghost use Rattle.std.proofs.Math.Option.{none};
+ghost use Rattle.std.specs.Iterator.{at_most};
 ghost use Rattle.std.specs.Int.Bits.{bit_and};
 ghost use Rattle.words.specs.Set.{set_of};
-ghost use Rattle.region.specs.Masks.{next_of};
-ghost use Rattle.region.specs.Calls.{region_unfit, decide_unfit, undecided_of, hold_of, cut_of};
+ghost use Rattle.refusal.specs.Refusal.{answered};
+ghost use Rattle.region.specs.Masks.{decisions};
+ghost use Rattle.region.specs.Visit.{next_of, Visits};
+ghost use Rattle.region.specs.Calls.{region_check, decide_check, undecided_of, decided, hold_of, cut_of};
 
+use fit::LIMIT;
+use refusal::Refusal;
 use rows::Atom;
 
 pub mod promises;
-
-// The most atoms.
-const LIMIT: usize = 512;
 
 // "n, held and cut masks"
 #[repr(C)]
@@ -24,28 +27,12 @@ pub struct Region {
     pub cut: [u64; 8],
 }
 
-// What becomes of a decision.
+// What becomes of a decision that is not refused.
 #[derive(Clone, Copy)]
 pub enum Answer {
     Taken,
     Same,
     Against,
-    Refused(usize),
-}
-
-// A region with a decision made, beside the answer.
-#[derive(Clone, Copy)]
-pub struct Decided {
-    pub region: Region,
-    pub answer: Answer,
-}
-
-// A new region, beside the number under which it is refused, or 0.
-#[repr(C)]
-#[derive(Clone, Copy)]
-pub struct NewRegion {
-    pub number: usize,
-    pub region: Region,
 }
 
 // "A call that wants one value's mask gets back the held or the cut words it lent, whole, and is never refused."
@@ -55,169 +42,151 @@ pub fn mask<'a>(held: &'a [u64], cut: &'a [u64], value: bool) -> &'a [u64]
     if value { held } else { cut }
 }
 
-// The lowest atom from `from` on in a mask of eight words, or 512.
-pub fn next(mask: &[u64; 8], from: usize) -> usize
+// The lowest atom from `from` on in a mask of eight words, if it has one.
+pub fn next(mask: &[u64; 8], from: usize) -> Option<usize>
     ensures { result ≡ next_of (set_of mask.now) from }
 {
-    let words: &[u64] = mask;
-    let mut i = from / 64;
-    if i >= 8 {
-        return LIMIT;
+    let first = from / 64;
+    if first >= 8 {
+        return None;
     }
-    let rest = words[i] >> (from % 64);
+    let rest = mask[first] >> (from % 64);
     if rest != 0 {
-        return from + u64::trailing_zeros(rest) as usize;
+        return Some(from + u64::trailing_zeros(rest) as usize);
     }
-    i += 1;
-    while i < 8 {
-        let word = words[i];
+    for i in first + 1..8 {
+        let word = mask[i];
         if word != 0 {
-            return i * 64 + u64::trailing_zeros(word) as usize;
+            return Some(i * 64 + u64::trailing_zeros(word) as usize);
         }
-        i += 1;
     }
-    LIMIT
+    None
+}
+
+// The atoms of a mask that lie in a range, to be visited from the lowest up.
+#[derive(Drop)]
+pub struct Atoms<'a> {
+    mask: &'a [u64; 8],
+    from: usize,
+    end: usize,
+}
+
+// The atoms below `end` of a mask.
+pub fn atoms_below(mask: &[u64; 8], end: usize) -> Atoms<'_>
+    ensures mask { result.mask.now ≡ mask.now }
+    ensures from { result.from ≡ 0 }
+    ensures end { result.end ≡ end }
+{
+    Atoms { mask, from: 0, end }
+}
+
+impl<'a> Iterator for Atoms<'a> {
+    type Item = usize;
+
+    ghost next_gives = { Visits };
+
+    ghost remaining = { λ s. at_most (s.end - s.from) };
+
+    fn next(&mut self) -> Option<usize> {
+        let atom = next(self.mask, self.from)?;
+        if atom >= self.end {
+            return None;
+        }
+        self.from = atom + 1;
+        Some(atom)
+    }
 }
 
 // Whether two masks have an atom in common.
-fn meet<'a>(left: &'a [u64; 8], right: &'a [u64; 8]) -> bool
+fn meet(left: &[u64; 8], right: &[u64; 8]) -> bool
     ensures { result ≡ not (eqb (bit_and (set_of left.now) (set_of right.now)) 0) }
 {
-    let first: &[u64] = left;
-    let second: &[u64] = right;
-    let mut i = 0;
-    while i < 8 {
-        if first[i] & second[i] != 0 {
-            return true;
-        }
-        i += 1;
-    }
-    false
+    left.iter().zip(right).any(|(a, b)| a & b != 0)
 }
 
 impl Region {
     // A region of n atoms, all open.
-    pub fn undecided(n: usize) -> NewRegion
+    #[tactic(auto, using(crate::proofs::Deciding::open_region), unfolding(crate::specs::Calls::undecided_of))]
+    pub fn undecided(n: usize) -> Result<Region, Refusal>
         ensures { result ≡ undecided_of n }
     {
         if n > LIMIT {
-            return NewRegion {
-                number: 10,
-                region: Region {
-                    atoms: 0,
-                    held: [0; 8],
-                    cut: [0; 8],
-                },
-            };
+            return Err(Refusal::Overfull);
         }
-        NewRegion {
-            number: 0,
-            region: Region {
-                atoms: n,
-                held: [0; 8],
-                cut: [0; 8],
-            },
-        }
+        Ok(Region {
+            atoms: n,
+            held: [0; 8],
+            cut: [0; 8],
+        })
     }
 
-    // The number under which the region is refused, or 0.
-    pub fn number(self) -> usize
-        ensures { result ≡ region_unfit self }
+    // Whether the region is fit.
+    pub fn check(&self) -> Result<(), Refusal>
+        ensures { result ≡ region_check self.now }
     {
         if self.atoms > LIMIT {
-            return 10;
+            return Err(Refusal::Overfull);
         }
-        let held = self.held;
-        if next(&held, self.atoms) != LIMIT {
-            return 11;
+        if next(&self.held, self.atoms).is_some() {
+            return Err(Refusal::Stray);
         }
-        let cut = self.cut;
-        if next(&cut, self.atoms) != LIMIT {
-            return 11;
+        if next(&self.cut, self.atoms).is_some() {
+            return Err(Refusal::Stray);
         }
-        if meet(&held, &cut) {
-            return 12;
+        if meet(&self.held, &self.cut) {
+            return Err(Refusal::Clash);
         }
-        0
+        Ok(())
     }
 
-    // The number under which a decision on the atom is refused, or 0.
-    fn decide_number(self, atom: Atom) -> usize
-        ensures { result ≡ decide_unfit self atom }
+    // Whether the atom can be decided.
+    #[tactic(auto, using(crate::proofs::Deciding::decide_is))]
+    fn check_decision(&self, atom: Atom) -> Result<(), Refusal>
+        ensures { result ≡ decide_check self.now atom }
     {
-        let number = self.number();
-        if number != 0 {
-            return number;
-        }
+        self.check()?;
         if atom.0 >= self.atoms {
-            return 18;
+            return Err(Refusal::Atom);
         }
-        0
+        Ok(())
     }
 
-    // Settles an atom as true.
-    pub fn hold(mut self, atom: Atom) -> Decided
-        ensures { result ≡ hold_of self atom }
+    // An atom settled as true or false: what becomes of the decision, and the region with it.
+    fn decided(mut self, atom: Atom, value: bool) -> Result<(Answer, Region), Refusal>
+        ensures { result ≡ answered (decide_check self atom) (decided (decisions self) atom.0 value (get_or (decisions self) atom.0 none)) }
     {
-        let number = self.decide_number(atom);
-        if number != 0 {
-            return Decided {
-                region: self,
-                answer: Answer::Refused(number),
-            };
+        self.check_decision(atom)?;
+        if words::contains(mask(&self.held, &self.cut, value), atom.0) {
+            return Ok((Answer::Same, self));
         }
-        let a = atom.0;
-        if words::contains(mask(&self.held, &self.cut, true), a) {
-            return Decided {
-                region: self,
-                answer: Answer::Same,
-            };
+        if words::contains(mask(&self.held, &self.cut, !value), atom.0) {
+            return Ok((Answer::Against, self));
         }
-        if words::contains(mask(&self.held, &self.cut, false), a) {
-            return Decided {
-                region: self,
-                answer: Answer::Against,
-            };
+        if value {
+            words::insert(&mut self.held, atom.0);
+        } else {
+            words::insert(&mut self.cut, atom.0);
         }
-        let place = words::locate(a);
-        let word = place.word;
-        self.held[word] = self.held[word] | place.bit;
-        Decided {
-            region: self,
-            answer: Answer::Taken,
-        }
+        Ok((Answer::Taken, self))
+    }
+
+    // Settles an atom as true. A refused decision, or one that is against, alters nothing.
+    #[tactic(auto, unfolding(crate::specs::Calls::hold_of))]
+    pub fn hold(&mut self, atom: Atom) -> Result<Answer, Refusal>
+        ensures { (result, self.new) ≡ hold_of self.old atom }
+    {
+        let (answer, region) = self.decided(atom, true)?;
+        *self = region;
+        Ok(answer)
     }
 
     // Settles an atom as false.
-    pub fn cut(mut self, atom: Atom) -> Decided
-        ensures { result ≡ cut_of self atom }
+    #[tactic(auto, unfolding(crate::specs::Calls::cut_of))]
+    pub fn cut(&mut self, atom: Atom) -> Result<Answer, Refusal>
+        ensures { (result, self.new) ≡ cut_of self.old atom }
     {
-        let number = self.decide_number(atom);
-        if number != 0 {
-            return Decided {
-                region: self,
-                answer: Answer::Refused(number),
-            };
-        }
-        let a = atom.0;
-        if words::contains(mask(&self.held, &self.cut, false), a) {
-            return Decided {
-                region: self,
-                answer: Answer::Same,
-            };
-        }
-        if words::contains(mask(&self.held, &self.cut, true), a) {
-            return Decided {
-                region: self,
-                answer: Answer::Against,
-            };
-        }
-        let place = words::locate(a);
-        let word = place.word;
-        self.cut[word] = self.cut[word] | place.bit;
-        Decided {
-            region: self,
-            answer: Answer::Taken,
-        }
+        let (answer, region) = self.decided(atom, false)?;
+        *self = region;
+        Ok(answer)
     }
 }

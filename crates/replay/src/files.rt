@@ -1,183 +1,144 @@
 // A recorded file: its length and bytes, then its text; where it is taken, what preparation answers and leaves, and its calls, each with the
 // region, the forced list and the knowledge that it leaves.
-use super::tape::Tape;
-use super::{systems, tape};
+use super::systems::Memory;
+use super::tape::{Recorded, Tape};
 use parity::System;
 use region::Region;
 use rows::Atom;
 use snapshot::Snapshot;
 
-// The recorded values so far, and the state between calls.
-#[derive(Clone, Copy)]
+// A call, recorded as its number, from 0 on, and its atom.
+enum Call {
+    Cut(Atom),
+    Hold(Atom),
+    Inspect,
+    Probe,
+}
+
+impl Recorded for Call {
+    const SIZE: usize = 4;
+
+    fn read(tape: &mut Tape) -> Call {
+        let number: usize = tape.read();
+        let atom = Atom(tape.read());
+        match number {
+            0 => Call::Cut(atom),
+            1 => Call::Hold(atom),
+            2 => Call::Inspect,
+            _ => Call::Probe,
+        }
+    }
+}
+
+// What stands between calls: region and knowledge, and what the last inspection told, in memory that had 7 everywhere.
+#[derive(Drop)]
 struct Run {
-    tape: Tape,
     region: Region,
     known: Snapshot,
+    forced: usize,
+    atoms: [usize; 512],
+    values: [u8; 512],
+}
+
+impl Run {
+    // This region and fresh knowledge.
+    fn new(region: Region) -> Run {
+        Run {
+            region,
+            known: Snapshot::fresh(),
+            forced: 0,
+            atoms: [7; 512],
+            values: [7; 512],
+        }
+    }
+
+    // A call that is no inspection leaves an empty list.
+    fn clear(&mut self) {
+        self.forced = 0;
+        self.atoms = [7; 512];
+        self.values = [7; 512];
+    }
+
+    fn inspect(&mut self, system: System, memory: &Memory) {
+        let said = inspect::inspect(
+            system,
+            &memory.rows,
+            &memory.constants,
+            &memory.basis,
+            &memory.index,
+            self.region,
+            self.known,
+            &mut self.atoms,
+            &mut self.values,
+        );
+        if let Ok(seen) = said {
+            self.region = seen.region;
+            self.known = seen.known;
+            self.forced = seen.forced;
+        }
+    }
+
+    // Makes a call; a probe, or a call that is refused, leaves region and knowledge as they were.
+    fn call(&mut self, call: Call, system: System, memory: &Memory) {
+        self.clear();
+        match call {
+            Call::Cut(atom) => {
+                let _ = self.region.cut(atom);
+            }
+            Call::Hold(atom) => {
+                let _ = self.region.hold(atom);
+            }
+            Call::Inspect => self.inspect(system, memory),
+            Call::Probe => {}
+        }
+    }
+
+    // Compares what a call leaves: the region, the forced list, and its length with the knowledge.
+    fn compare(&self, tape: &mut Tape) {
+        let region = self.region;
+        let known = self.known;
+        tape.compare(&region.held, 0);
+        tape.compare(&region.cut, 0);
+        tape.compare(&self.atoms, 7);
+        tape.compare(&self.values, 7);
+        tape.compare(
+            &[self.forced, usize::from(known.initialized), known.atoms],
+            0,
+        );
+        tape.compare(&known.held, 0);
+        tape.compare(&known.cut, 0);
+    }
 }
 
 // The text that the library answers, in memory that had 7 everywhere.
-fn text(input: &[u8], tape: Tape, file: &[u8]) -> Tape {
+fn text(tape: &mut Tape, file: &[u8]) {
     let mut out = buffer::filled::<524352>(7);
-    answer::answer(file, &mut out);
-    tape.bytes(input, &out, 7)
+    let _ = answer::answer(file, &mut out);
+    tape.compare(&out, 7);
 }
 
-// The held and the cut words of a region or of knowledge.
-fn masks(input: &[u8], tape: Tape, held: [u64; 8], cut: [u64; 8]) -> Tape {
-    tape.words(input, &held, 0).words(input, &cut, 0)
-}
-
-// What a call leaves: the region, the forced list, and its length with the knowledge.
-fn left(input: &[u8], run: Run, forced: usize, atoms: &[usize], values: &[u8]) -> Run {
-    let tape = run.tape;
-    let region = run.region;
-    let known = run.known;
-    let held = region.held;
-    let cut = region.cut;
-    let old_held = known.held;
-    let old_cut = known.cut;
-    let told = [forced, tape::bit(known.initialized), known.atoms];
-    let settled = masks(input, tape, held, cut);
-    let list = settled.numbers(input, atoms, 7).bytes(input, values, 7);
-    let counted = list.numbers(input, &told, 0);
-    let old = masks(input, counted, old_held, old_cut);
-    Run {
-        tape: old,
-        region,
-        known,
-    }
-}
-
-// The call at a place: 0 is cut and 1 hold, with the atom; 2 is an inspection, and 3 a probe.
-fn call(
-    input: &[u8],
-    system: System,
-    rows: &[u64],
-    constants: &[u8],
-    basis: &[usize],
-    index: &[u64],
-    run: Run,
-) -> Run {
-    let mut atoms = [7usize; 512];
-    let mut values = [7u8; 512];
-    let kind = format::short(input, run.tape.at, 0);
-    let atom = format::short(input, run.tape.at, 2);
-    let tape = Tape {
-        at: tape::past(input, run.tape.at, 4),
-        agrees: run.tape.agrees,
+// What preparation leaves of the rows that a file's load leaves, and then the calls, behind their number.
+fn internals(tape: &mut Tape, file: &[u8]) {
+    let mut memory = Memory::new();
+    let Ok(checked) = load::load(file, &mut memory.rows, &mut memory.constants) else {
+        return;
     };
-    let region = run.region;
-    let known = run.known;
-    if kind == 2 {
-        let seen = inspect::inspect(
-            system,
-            rows,
-            constants,
-            basis,
-            index,
-            region,
-            known,
-            &mut atoms,
-            &mut values,
-        );
-        let settled = seen.region;
-        let learnt = seen.known;
-        let after = Run {
-            tape,
-            region: settled,
-            known: learnt,
-        };
-        return left(input, after, seen.forced, &atoms, &values);
-    }
-    let decided = decide(region, kind, atom);
-    let after = Run {
-        tape,
-        region: decided,
-        known,
+    let said = memory.prepare(checked.atoms, checked.rows);
+    memory.compare(tape, said);
+    let (Ok(prepared), Ok(region)) = (said, Region::undecided(checked.atoms)) else {
+        return;
     };
-    left(input, after, 0, &atoms, &values)
+    let count: usize = tape.read();
+    let mut run = Run::new(region);
+    for _ in 0..count {
+        run.call(tape.read(), prepared.system, &memory);
+        run.compare(tape);
+    }
 }
 
-// The region with a decision made; a probe makes none.
-fn decide(region: Region, kind: usize, atom: usize) -> Region {
-    if kind == 0 {
-        let cut = region.cut(Atom(atom));
-        return cut.region;
-    }
-    if kind == 1 {
-        let held = region.hold(Atom(atom));
-        return held.region;
-    }
-    region
-}
-
-// The calls from an undecided region and fresh knowledge, behind their number.
-fn calls(
-    input: &[u8],
-    system: System,
-    rows: &[u64],
-    constants: &[u8],
-    basis: &[usize],
-    index: &[u64],
-    tape: Tape,
-) -> Tape {
-    let count = format::short(input, tape.at, 0);
-    let from = Tape {
-        at: tape::past(input, tape.at, 2),
-        agrees: tape.agrees,
-    };
-    let fresh = Region::undecided(system.atoms);
-    let region = fresh.region;
-    let mut run = Run {
-        tape: from,
-        region,
-        known: Snapshot::fresh(),
-    };
-    let mut i: usize = 0;
-    while i < count {
-        run = call(input, system, rows, constants, basis, index, run);
-        i += 1;
-    }
-    run.tape
-}
-
-// What preparation leaves of the rows that a file's load leaves, and then the calls.
-fn internals(input: &[u8], tape: Tape, file: &[u8]) -> Tape {
-    let mut rows = [7u64; 4096];
-    let mut constants = [7u8; 512];
-    let mut basis = [7usize; 512];
-    let mut atoms = [7usize; 512];
-    let mut values = [7u8; 512];
-    let mut index = [7u64; 4096];
-    let checked = load::load(file, &mut rows, &mut constants);
-    if checked.number != 0 {
-        return tape;
-    }
-    let prepared = parity::prepare(
-        checked.atoms,
-        checked.rows,
-        &mut rows,
-        &mut constants,
-        &mut basis,
-        &mut atoms,
-        &mut values,
-        &mut index,
-    );
-    let left = systems::left(
-        input, tape, prepared, &rows, &constants, &basis, &atoms, &values, &index,
-    );
-    let system = prepared.system;
-    calls(input, system, &rows, &constants, &basis, &index, left)
-}
-
-pub fn answer(input: &[u8], at: usize) -> Tape {
-    let size = format::word(input, at, 0) as usize;
-    let start = tape::past(input, at, 8);
-    let end = tape::past(input, start, size);
-    let file = &input[start..end];
-    let tape = Tape {
-        at: end,
-        agrees: true,
-    };
-    internals(input, text(input, tape, file), file)
+pub fn answer(tape: &mut Tape) {
+    let size: u64 = tape.read();
+    let file = tape.part(size as usize).rest();
+    text(tape, file);
+    internals(tape, file);
 }

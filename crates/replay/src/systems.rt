@@ -1,67 +1,79 @@
-// A recorded system: n, m, row words and constants, then what `prepare` answers and what it leaves in buffers that had 7 everywhere else.
-use super::tape;
+// A recorded system: n, m, row words and constants, then what `prepare` answers and what it leaves in memory that had 7 everywhere else.
 use super::tape::Tape;
 use parity::Prepared;
+use refusal::Refusal;
 
-fn told(said: Prepared) -> [usize; 8] {
-    let system = said.system;
-    [
-        said.number,
-        system.atoms,
-        system.rows,
-        system.rank,
-        tape::bit(system.refuted),
-        said.additions,
-        said.units,
-        said.incidences,
-    ]
+// The memory that is lent to preparation.
+#[derive(Drop)]
+pub struct Memory {
+    pub rows: [u64; 4096],
+    pub constants: [u8; 512],
+    pub basis: [usize; 512],
+    pub atoms: [usize; 512],
+    pub values: [u8; 512],
+    pub index: [u64; 4096],
 }
 
-// Compares an answer and the buffers behind it.
-pub fn left(
-    input: &[u8],
-    tape: Tape,
-    said: Prepared,
-    rows: &[u64],
-    constants: &[u8],
-    basis: &[usize],
-    atoms: &[usize],
-    values: &[u8],
-    index: &[u64],
-) -> Tape {
-    let numbers = told(said);
-    let answered = tape.numbers(input, &numbers, 0);
-    let reduced = answered.words(input, rows, 7).bytes(input, constants, 7);
-    let named = reduced.numbers(input, basis, 7).numbers(input, atoms, 7);
-    named.bytes(input, values, 7).words(input, index, 7)
+impl Memory {
+    pub fn new() -> Memory {
+        Memory {
+            rows: [7; 4096],
+            constants: [7; 512],
+            basis: [7; 512],
+            atoms: [7; 512],
+            values: [7; 512],
+            index: [7; 4096],
+        }
+    }
+
+    pub fn prepare(&mut self, n: usize, m: usize) -> Result<Prepared, Refusal> {
+        parity::prepare(
+            n,
+            m,
+            &mut self.rows,
+            &mut self.constants,
+            &mut self.basis,
+            &mut self.atoms,
+            &mut self.values,
+            &mut self.index,
+        )
+    }
+
+    // Compares an answer and the memory behind it.
+    pub fn compare(&self, tape: &mut Tape, said: Result<Prepared, Refusal>) {
+        tape.compare(&told(said), 0);
+        tape.compare(&self.rows, 7);
+        tape.compare(&self.constants, 7);
+        tape.compare(&self.basis, 7);
+        tape.compare(&self.atoms, 7);
+        tape.compare(&self.values, 7);
+        tape.compare(&self.index, 7);
+    }
 }
 
-pub fn prepare(input: &[u8], at: usize) -> Tape {
-    let n = format::short(input, at, 0);
-    let m = format::short(input, at, 2);
-    let mut rows = [7u64; 4096];
-    let mut constants = [7u8; 512];
-    let mut basis = [7usize; 512];
-    let mut atoms = [7usize; 512];
-    let mut values = [7u8; 512];
-    let mut index = [7u64; 4096];
-    let read = tape::read_words(input, tape::past(input, at, 4), &mut rows);
-    let next = tape::read_bytes(input, read, &mut constants);
-    let said = parity::prepare(
-        n,
-        m,
-        &mut rows,
-        &mut constants,
-        &mut basis,
-        &mut atoms,
-        &mut values,
-        &mut index,
-    );
-    let tape = Tape {
-        at: next,
-        agrees: true,
-    };
-    left(
-        input, tape, said, &rows, &constants, &basis, &atoms, &values, &index,
-    )
+// What preparation answers: number, atoms, rows, rank, refuted, additions, units and incidences. A refused call has its number and else 0.
+fn told(said: Result<Prepared, Refusal>) -> [usize; 8] {
+    match said {
+        Ok(prepared) => [
+            0,
+            prepared.system.atoms,
+            prepared.system.rows,
+            prepared.system.rank,
+            usize::from(prepared.system.refuted),
+            prepared.additions,
+            prepared.units,
+            prepared.incidences,
+        ],
+        Err(refusal) => [refusal.number(), 0, 0, 0, 0, 0, 0, 0],
+    }
+}
+
+pub fn prepare(tape: &mut Tape) {
+    let n = tape.read();
+    let m = tape.read();
+    let mut memory = Memory::new();
+    tape.fill(&mut memory.rows);
+    tape.fill(&mut memory.constants);
+    let said = memory.prepare(n, m);
+    memory.compare(tape, said);
 }

@@ -1,38 +1,30 @@
 // A recorded table: k, its words, then what `propose` says of it: number, count, exact, and 8 times coefficients and constant.
-use super::tape;
 use super::tape::Tape;
-use hull::Proposal;
+use hull::Hull;
+use refusal::Refusal;
 
-fn told(said: Proposal) -> [usize; 19] {
-    let hull = said.hull;
-    let equations = hull.equations;
+// A refused call has its number and else 0.
+fn told(said: Result<Hull, Refusal>) -> [usize; 19] {
     let mut numbers = [0usize; 19];
-    numbers[0] = said.number;
+    let hull = match said {
+        Ok(hull) => hull,
+        Err(refusal) => {
+            numbers[0] = refusal.number();
+            return numbers;
+        }
+    };
     numbers[1] = hull.count;
-    numbers[2] = tape::bit(hull.exact);
-    let mut i = 0;
-    while i < 8 {
-        let e = equations[i];
-        numbers[3 + i * 2] = e.coefficients as usize;
-        numbers[4 + i * 2] = tape::bit(e.constant);
-        i += 1;
+    numbers[2] = usize::from(hull.exact);
+    for (i, e) in hull.equations.iter().enumerate() {
+        numbers[3 + i * 2] = usize::from(e.coefficients);
+        numbers[4 + i * 2] = usize::from(e.constant);
     }
     numbers
 }
 
-pub fn propose(input: &[u8], at: usize) -> Tape {
-    let k = format::short(input, at, 0);
-    let from = tape::past(input, at, 2);
-    let count = format::short(input, from, 0);
+pub fn propose(tape: &mut Tape) {
+    let k = tape.read();
     let mut words = [0u64; 8];
-    let next = tape::read_words(input, from, &mut words);
-    let tape = Tape {
-        at: next,
-        agrees: count <= 8,
-    };
-    if 8 < count {
-        return tape;
-    }
-    let numbers = told(hull::propose(k, &words[..count]));
-    tape.numbers(input, &numbers, 0)
+    let count = tape.fill(&mut words);
+    tape.compare(&told(hull::propose(k, &words[..count])), 0);
 }

@@ -1,149 +1,114 @@
-// Recorded values, read or compared one after the other: each call goes on behind what it took. A list stands behind its length in 2 bytes.
-// Past the end of the input all is 0.
-ghost use Rattle.std.specs.Prelude.{◌≤◌, ◌<◌, length};
+// Recorded values, read or compared one after the other. A number has 2 bytes and a word 8, the lowest first; a list stands behind its length.
 
-// Where the next value stands, and whether all so far are as recorded.
-#[derive(Clone, Copy)]
-pub struct Tape {
-    pub at: usize,
-    pub agrees: bool,
+ghost use Rattle.std.specs.Prelude.{◌≤◌, length};
+
+// What is left of the recording, and whether all so far is as recorded. What is read past the end is 0, and is not.
+#[derive(Drop)]
+pub struct Tape<'a> {
+    rest: &'a [u8],
+    agrees: bool,
 }
 
-// The place so many bytes on, at most the end of the input.
-pub fn past(input: &[u8], at: usize, by: usize) -> usize
-    ensures within { result ≤ length input.now }
-    ensures onward { at ≤ length input.now → at ≤ result }
-{
-    let end = input.len();
-    if end < by {
-        return end;
+// A value that is recorded, in so many bytes.
+pub trait Recorded {
+    const SIZE: usize;
+
+    fn read(tape: &mut Tape) -> Self;
+}
+
+impl Recorded for u64 {
+    const SIZE: usize = 8;
+
+    fn read(tape: &mut Tape) -> u64 {
+        u64::from_le_bytes(tape.bytes())
     }
-    if end - by < at {
-        return end;
+}
+
+impl Recorded for usize {
+    const SIZE: usize = 2;
+
+    fn read(tape: &mut Tape) -> usize {
+        usize::from(u16::from_le_bytes(tape.bytes()))
     }
-    at + by
 }
 
-pub fn bit(b: bool) -> usize
-    ensures { result ≤ 1 }
-{
-    if b { 1 } else { 0 }
-}
+impl Recorded for u8 {
+    const SIZE: usize = 1;
 
-// Whether words, numbers or bytes begin with those that are recorded from a place on, and the rest are all `rest`.
-fn same_words(input: &[u8], at: usize, count: usize, words: &[u64], rest: u64) -> bool
-    requires { count < 65536 }
-{
-    let mut i = 0;
-    while i < words.len() {
-        let wanted = if i < count {
-            format::word(input, at, i * 8)
-        } else {
-            rest
-        };
-        if words[i] != wanted {
-            return false;
-        }
-        i += 1;
+    fn read(tape: &mut Tape) -> u8 {
+        u8::from_le_bytes(tape.bytes())
     }
-    count <= i
 }
 
-fn same_numbers(input: &[u8], at: usize, count: usize, numbers: &[usize], rest: usize) -> bool
-    requires { count < 65536 }
-{
-    let mut i = 0;
-    while i < numbers.len() {
-        let wanted = if i < count {
-            format::short(input, at, i * 2)
-        } else {
-            rest
-        };
-        if numbers[i] != wanted {
-            return false;
-        }
-        i += 1;
-    }
-    count <= i
-}
-
-fn same_bytes(input: &[u8], at: usize, count: usize, bytes: &[u8], rest: u8) -> bool {
-    let mut i = 0;
-    while i < bytes.len() {
-        let wanted = if i < count {
-            format::byte(input, at, i) as u8
-        } else {
-            rest
-        };
-        if bytes[i] != wanted {
-            return false;
-        }
-        i += 1;
-    }
-    count <= i
-}
-
-impl Tape {
-    // Compares words: those recorded, and all further ones `rest`.
-    pub fn words(self, input: &[u8], words: &[u64], rest: u64) -> Tape {
-        let count = format::short(input, self.at, 0);
-        let from = past(input, self.at, 2);
-        let same = same_words(input, from, count, words, rest);
+impl<'a> Tape<'a> {
+    pub fn new(recorded: &'a [u8]) -> Tape<'a> {
         Tape {
-            at: past(input, from, count * 8),
-            agrees: self.agrees && same,
+            rest: recorded,
+            agrees: true,
         }
     }
 
-    // Compares numbers of 2 bytes.
-    pub fn numbers(self, input: &[u8], numbers: &[usize], rest: usize) -> Tape {
-        let count = format::short(input, self.at, 0);
-        let from = past(input, self.at, 2);
-        let same = same_numbers(input, from, count, numbers, rest);
-        Tape {
-            at: past(input, from, count * 2),
-            agrees: self.agrees && same,
+    fn bytes<const N: usize>(&mut self) -> [u8; N] {
+        match self.rest.first_chunk::<N>() {
+            Some(bytes) => {
+                self.rest = &self.rest[N..];
+                *bytes
+            }
+            None => {
+                self.rest = &[];
+                self.agrees = false;
+                [0; N]
+            }
         }
     }
 
-    pub fn bytes(self, input: &[u8], bytes: &[u8], rest: u8) -> Tape {
-        let count = format::short(input, self.at, 0);
-        let from = past(input, self.at, 2);
-        let same = same_bytes(input, from, count, bytes, rest);
-        Tape {
-            at: past(input, from, count),
-            agrees: self.agrees && same,
-        }
+    pub fn read<T: Recorded>(&mut self) -> T {
+        T::read(self)
     }
-}
 
-// Reads words, as many as there is room for; the place behind them all.
-pub fn read_words(input: &[u8], at: usize, words: &mut [u64]) -> usize {
-    let count = format::short(input, at, 0);
-    let from = past(input, at, 2);
-    let end = past(input, from, count * 8);
-    let mut i = 0;
-    while i < count {
-        if words.len() <= i {
-            return end;
-        }
-        words[i] = format::word(input, from, i * 8);
-        i += 1;
+    // The next so many bytes, at most those that there are, as a tape of their own.
+    pub fn part(&mut self, size: usize) -> Tape<'a> {
+        let (part, rest) = self.rest.split_at(size.min(self.rest.len()));
+        self.rest = rest;
+        Tape::new(part)
     }
-    end
-}
 
-pub fn read_bytes(input: &[u8], at: usize, bytes: &mut [u8]) -> usize {
-    let count = format::short(input, at, 0);
-    let from = past(input, at, 2);
-    let end = past(input, from, count);
-    let mut i = 0;
-    while i < count {
-        if bytes.len() <= i {
-            return end;
-        }
-        bytes[i] = format::byte(input, from, i) as u8;
-        i += 1;
+    // All that was recorded was read, and agrees.
+    pub fn is_matched(&self) -> bool {
+        self.agrees && self.rest.is_empty()
     }
-    end
+
+    pub fn rest(&self) -> &'a [u8] {
+        self.rest
+    }
+
+    // The next list: how many values it has, and a tape of them.
+    fn list<T: Recorded>(&mut self) -> (usize, Tape<'a>) {
+        let count: u16 = u16::from_le_bytes(self.bytes());
+        let size = usize::from(count).saturating_mul(T::SIZE);
+        (usize::from(count), self.part(size))
+    }
+
+    // Compares values: those recorded, and all further ones `other`.
+    pub fn compare<T: Recorded + Copy + PartialEq>(&mut self, values: &[T], other: T) {
+        let (count, mut list) = self.list::<T>();
+        let mut agrees = count <= values.len();
+        for (i, value) in values.iter().enumerate() {
+            let wanted = if i < count { list.read() } else { other };
+            agrees = agrees && *value == wanted;
+        }
+        self.agrees = self.agrees && agrees && list.agrees;
+    }
+
+    // Reads values, and says how many. There is to be room for all of them.
+    pub fn fill<T: Recorded + Copy>(&mut self, values: &mut [T]) -> usize
+        ensures { result ≤ length values.old }
+    {
+        let (count, mut list) = self.list::<T>();
+        for value in values.iter_mut().take(count) {
+            *value = list.read();
+        }
+        self.agrees = self.agrees && count <= values.len() && list.agrees;
+        count.min(values.len())
+    }
 }

@@ -5,11 +5,13 @@ use mathlib.Core.List.{List, [], ◌∷◌, ◌++◌, zip_with}
 use mathlib.Core.Bool.{true, ◌&&◌, and-eq-true_iff}
 use native.Mathlib.Nat.{zero-add, suc-add, suc-mul, mul-le-mul_right}
 use native.Mathlib.Omega.{arith}
-use borrow.Author.Tests.{ltb-true, leb-true}
+use borrow.Author.Tests.{eq-eqb, ltb-true, leb-true}
 use lib.ListN.{length, get_or, take, drop, set, length-drop, length-set, take-append-drop, get_or-append}
 use lib.Seq.{length-take-le, get_or-append-add, get_or-take, get_or-drop, drop-drop}
 use lib.Dec.{leb, ltb}
 use lib.Bits.{bit_xor}
+use Rattle.std.proofs.lemmas.List.{drop-take, take-take}
+use Rattle.words.specs.Calls.{merged}
 use Rattle.words.proofs.Merged.{up_to, up_to_next, up_to_part}
 
 set_append_add : (p q : List ℕ) (i v : ℕ) → set (p ++ q) (length p + i) v ≡ p ++ set q i v
@@ -84,6 +86,27 @@ module _ (w x y : ℕ) (ws ws' : List ℕ) (to from : ℕ) (before : y + w ≤ x
       ∙ ap (λ (l : List ℕ). take x ws ++ l)
       (up_to_part bit_xor w (drop x ws) (drop y ws) there here
       ∙ ap (λ (l : List ℕ). zip_with bit_xor (take w (drop x ws)) (take w (drop y ws)) ++ l) (drop-drop w x ws))
+
+-- ---- the words split where the later row begins
+
+-- the earlier part has the earlier row
+front_part : (w x y : ℕ) (ws : List ℕ) → y + w ≤ x → take w (drop y (take x ws)) ≡ take w (drop y ws)
+front_part w x y ws h =
+    let e : x ≡ y + (x - y) = omega arith in
+    ap (λ (n : ℕ). take w (drop y (take n ws))) e ∙ ap (take w) (drop-take y (x - y) ws) ∙ take-take w (x - y) (drop y ws) (omega arith)
+
+pub added_split : (w x y : ℕ) (ws p q new : List ℕ) → y + w ≤ x → x + w ≤ length ws → p ≡ take x ws → q ≡ drop x ws
+    → new ≡ merged bit_xor (take w q) (take (y + w - y) (drop y p))
+    → p ++ (new ++ drop w q) ≡ take x ws ++ (zip_with bit_xor (take w (drop x ws)) (take w (drop y ws)) ++ drop (x + w) ws)
+unfolding merged
+added_split w x y ws p q new before fits front back joined =
+    let k : y + w - y ≡ w = omega arith in
+    let from : take (y + w - y) (drop y p) ≡ take w (drop y ws) = ap₂ (λ (n : ℕ) (l : List ℕ). take n (drop y l)) k front ∙ front_part w x y ws before in
+    let to : take w q ≡ take w (drop x ws) = ap (take w) back in
+    let there : length (take w (drop x ws)) ≡ w = length-take-le w (drop x ws) (simp length-drop (omega arith)) in
+    let here : length (take w (drop y ws)) ≡ w = length-take-le w (drop y ws) (simp length-drop (omega arith)) in
+    let sum : new ≡ zip_with bit_xor (take w (drop x ws)) (take w (drop y ws)) = joined ∙ ap₂ (merged bit_xor) to from ∙ simp (eq-eqb _ _ (there ∙ sym here)) in
+    ap₂ ◌++◌ front (ap₂ ◌++◌ sum (ap (drop w) back ∙ drop-drop w x ws))
 
 -- an earlier row ends where a later one begins, or before
 pub earlier : (w t s : ℕ) → s < t → s * w + w ≤ t * w

@@ -1,6 +1,5 @@
 -- The laws behind the promises, for the proofs of this crate and of those above it.
 pub mod Places
-pub mod Asked
 pub mod Adding
 pub mod Odd
 pub mod Flips

@@ -18,10 +18,11 @@ use Rattle.words.proofs.Bitwise.{by_xor, two}
 use Rattle.words.proofs.Packed.{packed_zip}
 use Rattle.words.proofs.Meaning.{low_lowest, has_none}
 use Rattle.rows.specs.Flat.{row, row_at, atoms_of, mask_of}
-use Rattle.rows.specs.Calls.{added_words, added_constants, lowest_of, within}
+use Rattle.rows.specs.Calls.{outside, added_words, added_constants, lowest_of, within}
 use Rattle.rows.specs.declared.Source.{Source}
 use Rattle.rows.specs.declared.Atom.{Atom}
-use Rattle.rows.specs.declared.Lowest.TheVariants.{At, Empty, Outside}
+use Rattle.rows.specs.declared.Outside.{Outside}
+use Rattle.std.specs.Prelude.{Option, Some, None, Result, Ok, Err}
 use Rattle.rows.specs.Promises.{AddSums, OverlapShared, RowHas, LowestIsLowest}
 use Rattle.rows.proofs.Adding.{can_add, earlier}
 use Rattle.rows.proofs.Places.{row_length}
@@ -124,8 +125,11 @@ pub row_has : RowHas
 unfolding row_at
 row_has n w ws cs r a h = atoms_has n (set_of (row w ws r)) a h
 
-lowest_cases : (t e : Bool) (x : ℕ) → ((a : ℕ) → cond t (cond e Empty (At (record { 0 = x }))) Outside ≡ At (record { 0 = a }) → (e ≡ false) × (x ≡ a))
-    × (cond t (cond e Empty (At (record { 0 = x }))) Outside ≡ Empty → e ≡ true)
+-- what `lowest_atom` answers of a row that is there or not, and that is empty or has the lowest atom x
+abbrev lowest_at : Bool → Bool → ℕ → Result (Option Atom) Outside
+lowest_at t e x = cond t (Ok (cond e None (Some (record { 0 = x })))) (Err outside)
+
+lowest_cases : (t e : Bool) (x : ℕ) → ((a : ℕ) → lowest_at t e x ≡ Ok (Some (record { 0 = a })) → (e ≡ false) × (x ≡ a)) × (lowest_at t e x ≡ Ok None → e ≡ true)
 lowest_cases true true x = ((λ a p. (cc, cc)), (λ p. refl))
 lowest_cases true false x = (
   (λ a p. let e : ◌≡◌ {A = Atom} (record { 0 = x }) (record { 0 = a }) = cc in (refl, ap (λ (t : Atom). t.0) e)),

@@ -1,6 +1,6 @@
 -- What each call of `rows` answers and leaves, for rows that are there and rows that are not.
-use Rattle.std.specs.Prelude.{ℕ, ◌+◌, ◌*◌, Bool, true, false, cond, ◌&&◌, length, get_or, take, drop, set, leb, ltb, eqb}
-use mathlib.Core.List.{List, [], ◌++◌, zip_with}
+use Rattle.std.specs.Prelude.{ℕ, ◌+◌, ◌*◌, Bool, false, Option, Some, None, Result, Ok, Err, cond, ◌&&◌, length, get_or, take, drop, set, leb, ltb, eqb}
+use mathlib.Core.List.{List, ◌++◌, zip_with}
 use Rattle.std.specs.Int.Bits.{bit_and, bit_xor}
 use Rattle.std.specs.Int.Count.{ones}
 use Rattle.words.specs.Set.{set_of, odd, low}
@@ -8,58 +8,52 @@ use Rattle.words.specs.Calls.{narrow}
 use Rattle.rows.specs.Flat.{row}
 use Rattle.rows.specs.declared.Ordinal.{Ordinal}
 use Rattle.rows.specs.declared.Source.{Source}
-use Rattle.rows.specs.declared.Entry.{Entry}
-use Rattle.rows.specs.declared.Entry.TheVariants as entry
-use Rattle.rows.specs.declared.Lowest.{Lowest}
-use Rattle.rows.specs.declared.Lowest.TheVariants as lowest
-use Rattle.rows.specs.declared.Parity.{Parity}
-use Rattle.rows.specs.declared.Parity.TheVariants as parity
-use Rattle.rows.specs.declared.Overlap.{Overlap}
-use Rattle.rows.specs.declared.Overlap.TheVariants as shared
+use Rattle.rows.specs.declared.Atom.{Atom}
+use Rattle.rows.specs.declared.Outside.{Outside}
+
+-- A row or a mask that is not there, or one of more bits than a usize numbers.
+abbrev pub outside : Outside
+outside = record {}
 
 -- Document 01: "a row's place in the basis (ordinal) and its number among the rows (source)".
-unfoldable pub source_of : List ℕ → Ordinal → Entry
-source_of basis place = cond (ltb place.0 (length basis)) (entry.Names (record { 0 = get_or basis place.0 0 })) entry.Nothing
+unfoldable pub source_of : List ℕ → Ordinal → Option Source
+source_of basis place = cond (ltb place.0 (length basis)) (Some (record { 0 = get_or basis place.0 0 })) None
 
 -- Whether row r lies within the words. (Of rows without words every one does.)
 abbrev pub within : ℕ → List ℕ → Source → Bool
 within w ws r = leb (r.0 * w + w) (length ws)
 
--- The part of w words at place i, the parts counted from 0, or no words where it does not lie within.
-unfoldable pub part_of : ℕ → List ℕ → ℕ → List ℕ
-part_of w ws i = cond (leb (i * w + w) (length ws)) (row w ws i) []
+-- The part of w words at place i, the parts counted from 0, if it lies within.
+unfoldable pub part_of : ℕ → List ℕ → ℕ → Option (List ℕ)
+part_of w ws i = cond (leb (i * w + w) (length ws)) (Some (row w ws i)) None
 
-abbrev pub row_of : ℕ → List ℕ → Source → List ℕ
+abbrev pub row_of : ℕ → List ℕ → Source → Option (List ℕ)
 row_of w ws r = part_of w ws r.0
 
 -- A row's "lowest atom"; a row of more bits than a usize numbers is not looked at.
-unfoldable pub lowest_of : ℕ → List ℕ → Source → Lowest
+unfoldable pub lowest_of : ℕ → List ℕ → Source → Result (Option Atom) Outside
 lowest_of w ws r =
     cond (within w ws r && narrow w)
-    (cond (eqb (set_of (row w ws r.0)) 0) lowest.Empty (lowest.At (record { 0 = low (set_of (row w ws r.0)) })))
-    lowest.Outside
+    (Ok (cond (eqb (set_of (row w ws r.0)) 0) None (Some (record { 0 = low (set_of (row w ws r.0)) }))))
+    (Err outside)
 
 -- A row and a mask that are both there: the mask's first w words.
 abbrev pub both_within : ℕ → List ℕ → Source → List ℕ → Bool
 both_within w ws r mask = within w ws r && leb w (length mask)
 
-unfoldable pub overlap_parity_of : ℕ → List ℕ → Source → List ℕ → Parity
+-- Whether the row shares an odd number of atoms with the mask.
+unfoldable pub overlap_parity_of : ℕ → List ℕ → Source → List ℕ → Result Bool Outside
 overlap_parity_of w ws r mask =
-    cond (both_within w ws r mask)
-    (cond (odd (ones (bit_and (set_of (row w ws r.0)) (set_of (take w mask))))) parity.Odd parity.Even)
-    parity.Outside
+    cond (both_within w ws r mask) (Ok (odd (ones (bit_and (set_of (row w ws r.0)) (set_of (take w mask)))))) (Err outside)
 
--- Whether that is odd; a row or a mask that is not there has none in common.
-abbrev pub is_odd : Parity → Bool
-is_odd parity.Even = false
-is_odd parity.Odd = true
-is_odd parity.Outside = false
+-- The same as yes or no: a row or a mask that is not there has none in common.
+abbrev pub is_odd : Result Bool Outside → Bool
+is_odd (Ok b) = b
+is_odd (Err e) = false
 
-unfoldable pub overlap_count_of : ℕ → List ℕ → Source → List ℕ → Overlap
+unfoldable pub overlap_count_of : ℕ → List ℕ → Source → List ℕ → Result ℕ Outside
 overlap_count_of w ws r mask =
-    cond (both_within w ws r mask && narrow w)
-    (shared.Atoms (ones (bit_and (set_of (row w ws r.0)) (set_of (take w mask)))))
-    shared.Outside
+    cond (both_within w ws r mask && narrow w) (Ok (ones (bit_and (set_of (row w ws r.0)) (set_of (take w mask))))) (Err outside)
 
 -- A row can be added to a later one that lies within the words, with its constant.
 abbrev pub addable : ℕ → List ℕ → List ℕ → Source → Source → Bool

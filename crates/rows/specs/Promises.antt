@@ -1,5 +1,5 @@
 -- The theorems of `rows`, as statements; src/promises.rt holds each.
-use Rattle.std.specs.Prelude.{ℕ, ◌-◌, ◌*◌, ◌^◌, ◌<◌, ◌≤◌, ◌≡◌, List, Bool, true, false, ◌&&◌, length, get_or}
+use Rattle.std.specs.Prelude.{ℕ, ◌-◌, ◌*◌, ◌^◌, ◌<◌, ◌≤◌, ◌≡◌, List, Some, None, Ok, Bool, true, false, ◌&&◌, length, get_or}
 use Rattle.std.specs.Bool.{beq}
 use Rattle.std.specs.Int.Bits.{bit_and}
 use Rattle.std.specs.Int.Count.{ones}
@@ -10,7 +10,6 @@ use Rattle.rows.specs.Decisions.{Decisions, agrees, undecided}
 use Rattle.rows.specs.Triangular.{Triangular}
 use Rattle.rows.specs.Flat.{row, row_at, atoms_of, mask_of, unpack}
 use Rattle.rows.specs.Calls.{addable, added_words, added_constants, lowest_of}
-use Rattle.rows.specs.declared.Lowest.TheVariants.{At, Empty}
 use Rattle.rows.specs.declared.Source.{Source}
 
 -- A sum is met exactly when both rows are met or neither is.
@@ -30,9 +29,9 @@ RowHas = (n w : ℕ) (ws cs : List ℕ) (r a : ℕ) → a < n → has_atom (row_
 -- What `lowest_atom` answers of a row with no atom from n on.
 abbrev pub LowestIsLowest : Type 0
 LowestIsLowest = (n w : ℕ) (ws cs : List ℕ) (r : Source) → set_of (row w ws r.0) < 2 ^ n
-    → ((a : ℕ) → lowest_of w ws r ≡ At (record { 0 = a })
+    → ((a : ℕ) → lowest_of w ws r ≡ Ok (Some (record { 0 = a }))
     → (a < n) × (has_atom (row_at n w ws cs r.0) a ≡ true) × ((b : ℕ) → b < a → has_atom (row_at n w ws cs r.0) b ≡ false))
-    × (lowest_of w ws r ≡ Empty → (b : ℕ) → has_atom (row_at n w ws cs r.0) b ≡ false)
+    × (lowest_of w ws r ≡ Ok None → (b : ℕ) → has_atom (row_at n w ws cs r.0) b ≡ false)
 
 -- What a row of n atoms shares with a mask is what its words share with it.
 abbrev pub OverlapShared : Type 0

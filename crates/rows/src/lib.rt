@@ -3,8 +3,9 @@
 #![tactic(auto)]
 
 ghost use Rattle.std.specs.Prelude.{◌≡◌, cond, ◌&&◌, ◌+◌, ◌*◌, ◌≤◌, ◌<◌, length, leb, ltb};
+ghost use Rattle.std.specs.Option.{option_copied};
 ghost use Rattle.rows.specs.Flat.{width_of};
-ghost use Rattle.rows.specs.Calls.{source_of, part_of, row_of, lowest_of, overlap_parity_of, is_odd, overlap_count_of, addable, added_words, added_constants};
+ghost use Rattle.rows.specs.Calls.{outside, source_of, part_of, row_of, lowest_of, overlap_parity_of, is_odd, overlap_count_of, addable, added_words, added_constants};
 
 pub mod promises;
 
@@ -20,177 +21,127 @@ pub struct Ordinal(pub usize);
 #[derive(Clone, Copy)]
 pub struct Source(pub usize);
 
-// What a place of the basis names.
+// Why a call gives no answer: a row or a mask is not there, or has more bits than a usize numbers.
 #[derive(Clone, Copy)]
-pub enum Entry {
-    Names(Source),
-    Nothing,
-}
+pub struct Outside;
 
-// A row's lowest atom. Here and below, Outside is a row or a mask that is not there, or one of more bits than a usize numbers.
-#[derive(Clone, Copy)]
-pub enum Lowest {
-    At(Atom),
-    Empty,
-    Outside,
-}
+impl From<words::Unfit> for Outside {
+    ghost from_gives = { λ _ e. e ≡ outside };
 
-// The parity of what a row shares with a mask.
-#[derive(Clone, Copy)]
-pub enum Parity {
-    Even,
-    Odd,
-    Outside,
-}
-
-// How many atoms a row shares with a mask.
-#[derive(Clone, Copy)]
-pub enum Overlap {
-    Atoms(usize),
-    Outside,
+    fn from(_unfit: words::Unfit) -> Outside {
+        Outside
+    }
 }
 
 // W = ceil(n/64), the words of a row of n atoms.
 pub fn width(atoms: usize) -> usize
     ensures { result ≡ width_of atoms }
 {
-    if atoms % 64 == 0 {
-        return atoms / 64;
-    }
-    atoms / 64 + 1
+    atoms.div_ceil(64)
 }
 
 // The row that a place of the basis names.
-pub fn source_at(basis: &[usize], place: Ordinal) -> Entry
+#[tactic(auto, unfolding(crate::specs::Calls::source_of))]
+pub fn source_at(basis: &[usize], place: Ordinal) -> Option<Source>
     ensures { result ≡ source_of basis.now place }
 {
-    let at = place.0;
-    if basis.len() <= at {
-        return Entry::Nothing;
-    }
-    Entry::Names(Source(basis[at]))
+    let number = basis.get(place.0)?;
+    Some(Source(*number))
 }
 
 // Whether the part of `width` words at a place lies within so many words. A quotient cannot wrap, where the part's place could.
 fn lies_within(words: usize, width: usize, place: usize) -> bool
     ensures { result ≡ leb (place * width + width) words }
 {
-    if width == 0 {
-        return true;
-    }
-    place < words / width
+    width == 0 || place < words / width
 }
 
-// The part of `width` words at a place, the parts counted from 0, or no words where it does not lie within.
-pub fn part(words: &[u64], width: usize, place: usize) -> &[u64]
-    ensures { result.now ≡ part_of width words.now place }
+// The part of `width` words at a place, the parts counted from 0, if it lies within.
+#[tactic(auto, unfolding(crate::specs::Calls::part_of))]
+pub fn part(words: &[u64], width: usize, place: usize) -> Option<&[u64]>
+    ensures { option_copied result ≡ part_of width words.now place }
 {
     if !lies_within(words.len(), width, place) {
-        return &words[..0];
+        return None;
     }
     let start = place * width;
-    let end = start + width;
-    &words[start..end]
+    Some(&words[start..start + width])
 }
 
-// The words of a row, or none where it does not lie within the rows.
-pub fn row(rows: &[u64], width: usize, number: Source) -> &[u64]
-    ensures { result.now ≡ row_of width rows.now number }
+// The words of a row, if it lies within the rows.
+pub fn row(rows: &[u64], width: usize, number: Source) -> Option<&[u64]>
+    ensures { option_copied result ≡ row_of width rows.now number }
 {
     part(rows, width, number.0)
 }
 
-// A row's lowest atom; words above it are not read.
-pub fn lowest_atom(rows: &[u64], width: usize, number: Source) -> Lowest
+// A row's lowest atom, if it has one; words above it are not read.
+#[tactic(auto, unfolding(crate::specs::Calls::part_of, crate::specs::Calls::lowest_of, words::specs::Calls::first_of))]
+pub fn lowest_atom(rows: &[u64], width: usize, number: Source) -> Result<Option<Atom>, Outside>
     ensures { result ≡ lowest_of width rows.now number }
 {
-    let words = row(rows, width, number);
-    if words.len() != width {
-        return Lowest::Outside;
-    }
-    match words::first(words) {
-        words::Found::At(a) => Lowest::At(Atom(a)),
-        words::Found::Nothing => Lowest::Empty,
-        words::Found::TooWide => Lowest::Outside,
-    }
+    let words = row(rows, width, number).ok_or(Outside)?;
+    let first = words::first(words)?;
+    Ok(first.map(|a| Atom(a)))
 }
 
 // Whether the row has an odd number of the mask's atoms. Of the mask the first `width` words count.
-pub fn overlap_parity(rows: &[u64], width: usize, number: Source, mask: &[u64]) -> Parity
+#[tactic(auto, unfolding(crate::specs::Calls::part_of, crate::specs::Calls::overlap_parity_of, words::specs::Calls::parity_of))]
+pub fn overlap_parity(
+    rows: &[u64],
+    width: usize,
+    number: Source,
+    mask: &[u64],
+) -> Result<bool, Outside>
     ensures { result ≡ overlap_parity_of width rows.now number mask.now }
 {
-    let words = row(rows, width, number);
-    if words.len() != width {
-        return Parity::Outside;
-    }
-    if mask.len() < width {
-        return Parity::Outside;
-    }
-    match words::intersection_parity(words, &mask[..width]) {
-        words::Verdict::Yes => Parity::Odd,
-        words::Verdict::No => Parity::Even,
-        words::Verdict::Unequal => Parity::Outside,
-    }
+    let words = row(rows, width, number).ok_or(Outside)?;
+    let mask = mask.get(..width).ok_or(Outside)?;
+    Ok(words::intersection_parity(words, mask)?)
 }
 
 // The same as yes or no: no where the row or the mask is not there.
 pub fn overlaps_odd(rows: &[u64], width: usize, number: Source, mask: &[u64]) -> bool
     ensures { result ≡ is_odd (overlap_parity_of width rows.now number mask.now) }
 {
-    match overlap_parity(rows, width, number, mask) {
-        Parity::Odd => true,
-        Parity::Even => false,
-        Parity::Outside => false,
-    }
+    overlap_parity(rows, width, number, mask).unwrap_or(false)
 }
 
 // How many of the mask's atoms the row has.
-pub fn overlap_count(rows: &[u64], width: usize, number: Source, mask: &[u64]) -> Overlap
+#[tactic(auto, unfolding(crate::specs::Calls::part_of, crate::specs::Calls::overlap_count_of, words::specs::Calls::intersection_of))]
+pub fn overlap_count(
+    rows: &[u64],
+    width: usize,
+    number: Source,
+    mask: &[u64],
+) -> Result<usize, Outside>
     ensures { result ≡ overlap_count_of width rows.now number mask.now }
 {
-    let words = row(rows, width, number);
-    if words.len() != width {
-        return Overlap::Outside;
-    }
-    if mask.len() < width {
-        return Overlap::Outside;
-    }
-    match words::intersection_count(words, &mask[..width]) {
-        words::Counted::Are(n) => Overlap::Atoms(n),
-        words::Counted::Unequal => Overlap::Outside,
-        words::Counted::TooWide => Overlap::Outside,
-    }
+    let words = row(rows, width, number).ok_or(Outside)?;
+    let mask = mask.get(..width).ok_or(Outside)?;
+    Ok(words::intersection_count(words, mask)?)
 }
 
 // Whether a source is an earlier row than the target, and the target lies within the rows and the constants.
 fn can_add(words: usize, constants: usize, width: usize, target: Source, source: Source) -> bool
     ensures { result ≡ (ltb source.0 target.0 && (ltb target.0 constants && leb (target.0 * width + width) words)) }
 {
-    if target.0 <= source.0 {
-        return false;
-    }
-    if constants <= target.0 {
-        return false;
-    }
-    lies_within(words, width, target.0)
+    source.0 < target.0 && target.0 < constants && lies_within(words, width, target.0)
 }
 
 // Adds the words of an earlier row to a later one.
+#[tactic(auto, unfolding(crate::specs::Calls::added_words))]
 fn add_words(rows: &mut [u64], width: usize, target: Source, source: Source)
     requires { (source.0 < target.0) × (target.0 * width + width ≤ length rows.old) }
     ensures { rows.new ≡ added_words width rows.old target source }
 {
-    let mut to = target.0 * width;
-    let mut from = source.0 * width;
-    let end = to + width;
-    while to < end {
-        rows[to] = rows[to] ^ rows[from];
-        to += 1;
-        from += 1;
-    }
+    let (earlier, later) = rows.split_at_mut(target.0 * width);
+    let start = source.0 * width;
+    words::xor_assign(&mut later[..width], &earlier[start..start + width]);
 }
 
 // Adds an earlier row to a later one in place, constants too, and says whether it could.
+#[tactic(auto, unfolding(crate::specs::Calls::added_constants))]
 pub fn add(
     rows: &mut [u64],
     constants: &mut [u8],
@@ -206,8 +157,6 @@ pub fn add(
         return false;
     }
     add_words(rows, width, target, source);
-    let to = target.0;
-    let from = source.0;
-    constants[to] = constants[to] ^ constants[from];
+    constants[target.0] ^= constants[source.0];
     true
 }

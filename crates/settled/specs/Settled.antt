@@ -1,10 +1,11 @@
 -- The small settled examples of document 01 marked [t]: one table of questions with their answers, and one statement over the definitions.
-use Rattle.std.specs.Prelude.{ℕ, ◌≡◌, List, [], ◌∷◌, map, Bool, true, false, cond, length, replicate}
+use Rattle.std.specs.Prelude.{ℕ, ◌≡◌, List, [], ◌∷◌, map, Bool, true, false, cond, length, replicate, Result, Ok, Err}
 use Rattle.std.proofs.Math.Option.{Option, none, some}
 use Rattle.rows.specs.Row.{Row}
 use Rattle.rows.specs.Decisions.{Decisions}
 use Rattle.rows.specs.Flat.{mask_of}
 use Rattle.hull.specs.Equations.{hull_of}
+use Rattle.refusal.specs.declared.Refusal.{Refusal}
 use Rattle.parity.specs.Prepare.{Lent, lent, prepare_of}
 use Rattle.parity.specs.declared.Prepared.{Prepared}
 use Rattle.region.specs.Masks.{decisions}
@@ -12,9 +13,11 @@ use Rattle.snapshot.specs.Promises.{old_decisions}
 use Rattle.inspect.specs.Inspect.{inspect_of}
 use Rattle.inspect.specs.Run.{hold, State, begins, after}
 use Rattle.inspect.specs.Promises.{filled_by}
+use Rattle.inspect.specs.declared.Inspected.{Inspected}
 use Rattle.inspect.specs.declared.Step.{Step}
 use Rattle.inspect.specs.declared.Step.TheVariants.{Refuted}
 use Rattle.probe.specs.Probe.{probe_of}
+use Rattle.probe.specs.declared.Probed.{Probed}
 
 pub data Question : Type 0 where
   table : ℕ → ℕ → Question  -- a table of k atoms by its first word
@@ -27,6 +30,7 @@ pub data Answer : Type 0 where
   prepared : Bool → ℕ → ℕ → Answer  -- whether the system is refuted, its rank, and the additions
   inspected : Step → ℕ → ℕ → ℕ → Decisions → Option Decisions → Answer  -- the answer, held, cut, forced, the decisions then and those known
   probed : Bool → ℕ → ℕ → Answer  -- yes or no, u and k
+  refused : Refusal → Answer  -- and no example is
 
 abbrev pub examples : List (Question × Answer)
 examples =
@@ -47,7 +51,7 @@ examples =
     ∷ []
 
 -- The rows prepared, with room for eight entries in each list.
-abbrev pub prepares : ℕ → List (ℕ × ℕ) → Prepared × Lent
+abbrev pub prepares : ℕ → List (ℕ × ℕ) → Result Prepared Refusal × Lent
 prepares n rows =
     let room : List ℕ = replicate 8 0 in
     prepare_of n (length rows) (lent (map (λ (r : ℕ × ℕ). r.0) rows) (map (λ (r : ℕ × ℕ). r.1) rows) room room room room)
@@ -56,23 +60,27 @@ prepares n rows =
 abbrev pub holding : ℕ → List ℕ → State
 holding n held = after (begins n) (map (λ (a : ℕ). hold (record { 0 = a })) held)
 
+-- What follows of a call's answer, or its refusal.
+abbrev pub told : {A : Type 0} → Result A Refusal → (A → Answer) → Answer
+told (Ok answer) f = f answer
+told (Err refusal) f = refused refusal
+
 abbrev pub answered : Question → Answer
 answered (table k word) =
     let h = hull_of k (word ∷ 0 ∷ []) in
     equations (map (λ (r : Row). (mask_of r.atoms, r.constant)) h.rows) h.exact
 answered (system n rows) =
-    let p = (prepares n rows).0 in
-    prepared p.system.refuted p.system.rank p.additions
+    told (prepares n rows).0 (λ (q : Prepared). prepared q.system.refuted q.system.rank q.additions)
 answered (inspection n rows held) =
     let p = prepares n rows in
     let st = holding n held in
     let room : List ℕ = replicate 8 0 in
-    let o = (inspect_of p.0.system (filled_by p.1) st.region st.known room room).result in
-    inspected o.answer o.held o.cut o.forced (decisions o.region) (cond o.known.initialized (some (old_decisions o.known)) none)
+    told p.0 (λ (q : Prepared). told (inspect_of q.system (filled_by p.1) st.region st.known room room).result (λ (o : Inspected).
+    inspected o.answer o.held o.cut o.forced (decisions o.region) (cond o.known.initialized (some (old_decisions o.known)) none)))
 answered (probing n rows held) =
     let p = prepares n rows in
-    let q = probe_of p.0.system p.1.rows p.1.constants p.1.basis (holding n held).region in
-    probed q.yes q.undecided q.kept
+    told p.0 (λ (q : Prepared). told (probe_of q.system p.1.rows p.1.constants p.1.basis (holding n held).region) (λ (o : Probed).
+    probed o.yes o.undecided o.kept))
 
 -- Every example has the answer of the definitions.
 abbrev pub Settled : Type 0

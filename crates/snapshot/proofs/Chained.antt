@@ -1,31 +1,27 @@
--- Checks one after another: what each number says of those before it. Limits, the region's own numbers, and bits past the rank.
-use Prim.Native.Nat.{ℕ, ◌*◌, ◌≤◌}
+-- What checks say that do not refuse: limits, and bits past the rank.
+use Prim.Native.Nat.{ℕ, ◌*◌, ◌≤◌, min}
+use native.Mathlib.Omega.{arith}
 use mathlib.Core.Path.{◌≡◌, refl, ap, ◌∙◌}
 use mathlib.Core.List.{List}
-use mathlib.Core.Bool.{Bool, true, false, cond, ◌&&◌, true≢false, false≢true}
+use mathlib.Core.Bool.{Bool, true, false, cond, not, ◌&&◌, true≢false, false≢true}
 use borrow.Author.Tests.{ltb-false, le-ltb}
 use lib.ListN.{length}
 use lib.Dec.{leb, ltb, eqb}
 use Rattle.rows.specs.declared.Atom.{Atom}
 use Rattle.fit.specs.Rows.{overfull}
 use Rattle.fit.proofs.Among.{or_none}
+use Rattle.std.specs.Prelude.{Ok, Err}
+use Rattle.refusal.specs.Refusal.{number_in}
+use Rattle.refusal.specs.declared.Refusal.TheVariants.{Index, Unequal, Missing, Atom as NoAtom}
 use Rattle.fit.proofs.Fitting.{passed}
 use Rattle.index.specs.Index.{column_width}
-use Rattle.index.specs.Column.{over_rank, column_unfit}
+use Rattle.index.specs.Column.{over_rank, column_check}
 use Rattle.parity.specs.declared.System.{System}
 use Rattle.region.specs.declared.Region.{Region}
-use Rattle.region.specs.Calls.{strayed, clashes, region_unfit}
-use Rattle.snapshot.specs.Knowledge.{overfull_by}
+use Rattle.region.specs.Calls.{strayed, clashes, region_check}
+use Rattle.snapshot.specs.Knowledge.{overfull_by, unequal, missing}
+use Rattle.snapshot.specs.Touch.{touched_check}
 use Rattle.snapshot.specs.declared.Snapshot.{Snapshot}
-
--- a check that refuses, and one that does not
-pub refuses : (b : Bool) (k rest : ℕ) → b ≡ true → k ≡ cond b k rest
-refuses true k rest e = refl
-refuses false k rest e = absurd (false≢true e)
-
-pub passes : {x rest : ℕ} (b : Bool) (k : ℕ) → b ≡ false → x ≡ rest → x ≡ cond b k rest
-passes true k e is = absurd (true≢false e)
-passes false k e is = is
 
 -- a check that is asked where another holds
 pub and_none : (a b : Bool) → (a && b) ≡ false → a ≡ true → b ≡ false
@@ -50,35 +46,43 @@ limits s r known e =
       region = ltb-false 512 r.atoms others.0;
     }
 
--- ---- 11 and 12, as `Region::number` tells them
+-- ---- 14, as `index::check_column` tells it
 
-own : (y z : Bool) (k rest : ℕ) → k ≡ cond y 11 (cond z 12 0) → (k ≡ 0 → ⊥) → k ≡ cond y 11 (cond z 12 rest)
-own true z k rest is ne = is
-own false true k rest is ne = is
-own false false k rest is ne = absurd (ne is)
-
-pub region_refuses : (r : Region) (k rest : ℕ) → r.atoms ≤ 512 → k ≡ region_unfit r → (k ≡ 0 → ⊥) → k ≡ cond (strayed r) 11 (cond (clashes r) 12 rest)
-unfolding region_unfit
-region_refuses r k rest few is ne =
-    own (strayed r) (clashes r) k rest (is ∙ ap (λ (t : Bool). cond t 10 (cond (strayed r) 11 (cond (clashes r) 12 0))) (le-ltb 512 r.atoms few)) ne
-
-pub region_passes : {x rest : ℕ} (r : Region) → region_unfit r ≡ 0 → x ≡ rest → x ≡ cond (strayed r) 11 (cond (clashes r) 12 rest)
-unfolding region_unfit
-region_passes r e is =
-    let few = passed (ltb 512 r.atoms) 9 _ e in
-    let stray = passed (strayed r) 10 _ few.1 in
-    passes (strayed r) 11 stray.0 (passes (clashes r) 12 (passed (clashes r) 11 0 stray.1).0 is)
-
--- ---- 14, as `index::column_number` tells it
-
-fourteen : (o p : Bool) → eqb (cond o 14 (cond p 18 0)) 14 ≡ o
-fourteen true p = refl
-fourteen false true = refl
-fourteen false false = refl
+past_is : (o p : Bool) → eqb (number_in {A = Unit} (cond o (Err Index) (cond p (Err NoAtom) (Ok tt)))) 14 ≡ o
+past_is true p = refl
+past_is false true = refl
+past_is false false = refl
 
 pub over_rank_is : (index : List ℕ) (n rank : ℕ) (a : Atom) → n ≤ 512 → rank ≤ 512 → n * column_width rank ≤ length index
-    → eqb (column_unfit index n rank a) 14 ≡ over_rank rank (column_width rank) index n
-unfolding column_unfit
+    → eqb (number_in (column_check index n rank a)) 14 ≡ over_rank rank (column_width rank) index n
+unfolding column_check
 over_rank_is index n rank a atoms ranks room =
     simp (le-ltb 512 n atoms, le-ltb 512 rank ranks, le-ltb (length index) (n * column_width rank) room)
-    (fourteen (over_rank rank (column_width rank) index n) (leb n a.0))
+    (past_is (over_rank rank (column_width rank) index n) (leb n a.0))
+
+-- a region's own checks
+pub region_passed : (r : Region) → region_check r ≡ Ok tt → (strayed r ≡ false) × (clashes r ≡ false)
+unfolding region_check
+region_passed r e =
+    let few = passed (ltb 512 r.atoms) _ _ e in
+    let stray = passed (strayed r) _ _ few.1 in
+    (stray.0, (passed (clashes r) _ _ stray.1).0)
+
+-- ---- where the first checks pass, what `past_rank` asks
+
+module _ (s : System) (index : List ℕ) (r : Region) (known : Snapshot) (full : overfull_by s r known ≡ false) (few : s.rank ≤ min s.rows s.atoms)
+    (room : s.atoms * column_width s.rank ≤ length index) where
+  pub over : eqb (number_in (column_check index s.atoms s.rank (record { 0 = 0 }))) 14 ≡ over_rank s.rank (column_width s.rank) index s.atoms
+  over =
+      let most = limits s r known full in
+      over_rank_is index s.atoms s.rank (record { 0 = 0 }) most.atoms (omega (arith, most.atoms, most.rows)) room
+
+  pub last_checks : (past : Bool) → past ≡ (not s.refuted && eqb (number_in (column_check index s.atoms s.rank (record { 0 = 0 }))) 14)
+      → region_check r ≡ Ok tt
+      → cond past (Err Index) (cond (unequal s r known) (Err Unequal) (cond (missing r known) (Err Missing) (Ok tt))) ≡ touched_check s index r known
+  unfolding touched_check
+  last_checks past is e =
+      let own = region_passed r e in
+      simp (full, le-ltb (min s.rows s.atoms) s.rank few, le-ltb (length index) (s.atoms * column_width s.rank) room, own.0, own.1)
+      (ap (λ (b : Bool). cond b (Err Index) (cond (unequal s r known) (Err Unequal) (cond (missing r known) (Err Missing) (Ok tt))))
+      (is ∙ ap (λ (b : Bool). not s.refuted && b) over))

@@ -1,5 +1,5 @@
 -- The touched rows as a set of ordinals: eight words of a list of rows, and back, and the words that `select` makes.
-use Prim.Native.Nat.{ℕ, zero, suc, ◌+◌, ◌*◌, ◌/◌, ◌%◌, ◌^◌, ◌≤◌, ◌<◌, min}
+use Prim.Native.Nat.{ℕ, zero, suc, ◌+◌, ◌*◌, ◌/◌, ◌%◌, ◌^◌, ◌≤◌, ◌<◌}
 use mathlib.Core.Path.{◌≡◌, refl, sym, ap, ap₂, ◌∙◌}
 use mathlib.Core.List.{List, ◌∷◌}
 use mathlib.Core.Bool.{Bool, true, false, not, xor, ◌||◌}
@@ -14,7 +14,6 @@ use Rattle.words.specs.Set.{packed, set_of, has}
 use Rattle.words.specs.Calls.{merged}
 use Rattle.words.proofs.Bitwise.{by_or, by_xor}
 use Rattle.words.proofs.Packed.{digit_low}
-use Rattle.words.proofs.Member.{has_past}
 use Rattle.words.proofs.Meaning.{same_atoms, set_merged, has_or, has_xor, has_none}
 use Rattle.rows.specs.Flat.{atoms_of, mask_of, unpack}
 use Rattle.rows.proofs.Digits.{atoms_mask}
@@ -26,7 +25,7 @@ use Rattle.snapshot.specs.declared.Snapshot.{Snapshot}
 use Rattle.snapshot.specs.Steps.{Adds}
 use Rattle.snapshot.specs.Touch.{newly, marks, listed, touched_of, ordinals_of}
 use Rattle.snapshot.proofs.Full.{full, full_has}
-use Rattle.snapshot.proofs.Marking.{marks_same, marks_on}
+use Rattle.snapshot.proofs.Marking.{marks_same}
 
 -- ---- a list of rows and its words
 
@@ -111,12 +110,6 @@ zeros_none j = has_none j
 
 module _ (r : Region) (known : Snapshot) (held : length r.held ≡ 8) (cut : length r.cut ≡ 8)
     (old-held : length known.held ≡ 8) (old-cut : length known.cut ≡ 8) where
-  newly_past : (a : ℕ) → 512 ≤ a → newly r known a ≡ false
-  unfolding xor
-  newly_past a h =
-      let none : (ws : List ℕ) → length ws ≡ 8 → has (set_of ws) a ≡ false = λ ws e. sym (has_past ws a (omega arith)) in
-      ap₂ xor (ap₂ xor (ap₂ ◌||◌ (none r.held held) (none r.cut cut)) (none known.held old-held)) (none known.cut old-cut)
-
   -- the masks joined one after the other, as lists of eight words
   pub newly_is : (x y z : List ℕ) → x ≡ merged bit_or r.held r.cut → length x ≡ 8 → y ≡ merged bit_xor x known.held → length y ≡ 8
       → z ≡ merged bit_xor y known.cut → (a : ℕ) → has (set_of z) a ≡ newly r known a
@@ -132,12 +125,11 @@ module _ (r : Region) (known : Snapshot) (held : length r.held ≡ 8) (cut : len
       ∙ ap (λ (t : Bool). xor t (has (set_of known.cut) a)) (middle ∙ ap (λ (t : Bool). xor t (has (set_of known.held) a)) left)
 
   pub new_chosen : (rank : ℕ) (index rows : List ℕ) (x : ℕ) → known.initialized ≡ true → ((a : ℕ) → has x a ≡ newly r known a)
-      → Adds (replicate 8 0) (λ j. marks (has x) (column_width rank) index j (min r.atoms 512)) rows
+      → Adds (replicate 8 0) (λ j. marks (has x) (column_width rank) index j r.atoms) rows
       → unpack 64 8 (set_of rows % 2 ^ rank) ≡ (ordinals_of (touched_of rank index r known)).words
   unfolding touched_of ordinals_of
   new_chosen rank index rows x e same joined =
       kept_listed rank (set_of rows) _ (λ j h.
-      joined j (omega arith) ∙ ap (λ (t : Bool). t || marks (has x) (column_width rank) index j (min r.atoms 512)) (zeros_none j)
-      ∙ marks_same (column_width rank) index j (has x) (newly r known) (min r.atoms 512) same
-      ∙ sym (marks_on (column_width rank) index j (newly r known) (min r.atoms 512) r.atoms (omega arith) (λ a p q. newly_past a (omega arith)))
+      joined j (omega arith) ∙ ap (λ (t : Bool). t || marks (has x) (column_width rank) index j r.atoms) (zeros_none j)
+      ∙ marks_same (column_width rank) index j (has x) (newly r known) r.atoms same
       ∙ sym (ap (λ (t : Bool). not t || marks (newly r known) (column_width rank) index j r.atoms) e))

@@ -10,6 +10,7 @@ use native.Mathlib.Omega.{arith}
 use borrow.Author.Tests.{ltb-true, ltb-false, lt-ltb, eqb-true, not-true, not-false}
 use lib.ListN.{length, get_or, get_or-eq_default}
 use lib.Dec.{ltb, eqb}
+use Rattle.std.specs.Prelude.{Option, unwrap_or}
 use Rattle.words.specs.Set.{set_of, has, subset}
 use Rattle.words.proofs.Meaning.{subset_holds}
 use Rattle.rows.specs.Row.{has_atom}
@@ -18,21 +19,23 @@ use Rattle.rows.specs.Calls.{part_of}
 use Rattle.rows.specs.declared.Atom.{Atom}
 use Rattle.fit.specs.Rows.{overfull}
 use Rattle.fit.proofs.Among.{or_none, any_found}
+use Rattle.std.specs.Prelude.{Ok}
+use Rattle.refusal.specs.Refusal.{left}
 use Rattle.fit.proofs.Fitting.{passed}
 use Rattle.index.specs.Index.{column_width}
-use Rattle.index.specs.Column.{over_rank, column_unfit, wanted_column}
+use Rattle.index.specs.Column.{over_rank, column_check, wanted_column}
 use Rattle.index.proofs.Wanted.{wanted_part}
-use Rattle.parity.specs.Prepare.{Lent, prepare_of}
+use Rattle.parity.specs.Prepare.{Lent, prepare_check, prepared}
 use Rattle.parity.specs.Promises.{row_left}
 use Rattle.parity.specs.declared.System.{System}
 use Rattle.parity.proofs.Telling.{column_tells}
 use Rattle.parity.proofs.Refit.{prepare_fits}
 use Rattle.region.specs.Masks.{decision, decisions, is_open}
-use Rattle.region.specs.Calls.{strayed, clashes, region_unfit}
+use Rattle.region.specs.Calls.{strayed, clashes, region_check}
 use Rattle.region.specs.declared.Region.{Region}
 use Rattle.region.proofs.Masked.{Fitting, fitting, decisions_length, decision_at}
 use Rattle.snapshot.specs.Knowledge.{overfull_by, unequal, missing}
-use Rattle.snapshot.specs.Touch.{newly, marks, touched_unfit}
+use Rattle.snapshot.specs.Touch.{newly, marked, marks, touched_check}
 use Rattle.snapshot.specs.Promises.{old_decisions, NewlyDecided, Touches, TouchedExact}
 use Rattle.snapshot.specs.declared.Snapshot.{Snapshot}
 use Rattle.snapshot.proofs.Chained.{and_none}
@@ -43,7 +46,7 @@ use Rattle.snapshot.proofs.Chosen.{touched_at}
 module _ (atoms : ℕ → Bool) (w : ℕ) (index : List ℕ) (j : ℕ) where
   -- whether atom a is one of them and its column has the row
   abbrev pub marks_at : ℕ → Bool
-  marks_at a = atoms a && has (set_of (part_of w index a)) j
+  marks_at a = atoms a && marked w index a j
 
   pub marks_start : marks atoms w index j 0 ≡ false
   unfolding marks
@@ -53,11 +56,11 @@ module _ (atoms : ℕ → Bool) (w : ℕ) (index : List ℕ) (j : ℕ) where
   unfolding marks
   marks_more n = refl
 
-  pub marks_found : (n a : ℕ) → a < n → atoms a ≡ true → has (set_of (part_of w index a)) j ≡ true → marks atoms w index j n ≡ true
+  pub marks_found : (n a : ℕ) → a < n → atoms a ≡ true → marked w index a j ≡ true → marks atoms w index j n ≡ true
   marks_found n a h e f = any_found (marks atoms w index j) marks_at marks_start marks_more n a h (ap₂ ◌&&◌ e f)
 
   abbrev pub SomeMark : ℕ → Type 0
-  SomeMark n = (a : ℕ) × (a < n) × (atoms a ≡ true) × (has (set_of (part_of w index a)) j ≡ true)
+  SomeMark n = (a : ℕ) × (a < n) × (atoms a ≡ true) × (marked w index a j ≡ true)
 
   pub marks_some : (n : ℕ) → marks atoms w index j n ≡ true → SomeMark n
   marks_some zero e = absurd (false≢true (sym marks_start ∙ e))
@@ -65,7 +68,7 @@ module _ (atoms : ℕ → Bool) (w : ℕ) (index : List ℕ) (j : ℕ) where
     where
       go : (t : Bool) → (t ≡ true → SomeMark n) → (t || marks_at n) ≡ true → SomeMark (suc n)
       go true earlier f = let found = earlier refl in (found.0, omega (arith, found.1), found.2, found.3)
-      go false earlier f = let parts = (and-eq-true_iff (atoms n) (has (set_of (part_of w index n)) j)).0 f in (n, omega arith, parts.0, parts.1)
+      go false earlier f = let parts = (and-eq-true_iff (atoms n) (marked w index n j)).0 f in (n, omega arith, parts.0, parts.1)
 
 -- ---- a region that is fit beside initialised knowledge, and has its decisions
 
@@ -76,21 +79,21 @@ pub record Follows (s : System) (r : Region) (known : Snapshot) : Type 0 where
   pub held : (a : ℕ) → has (set_of known.held) a ≡ true → has (set_of r.held) a ≡ true
   pub cut : (a : ℕ) → has (set_of known.cut) a ≡ true → has (set_of r.cut) a ≡ true
 
-region_taken : (r : Region) → ltb 512 r.atoms ≡ false → strayed r ≡ false → clashes r ≡ false → region_unfit r ≡ 0
-unfolding region_unfit
+region_taken : (r : Region) → ltb 512 r.atoms ≡ false → strayed r ≡ false → clashes r ≡ false → region_check r ≡ Ok tt
+unfolding region_check
 region_taken r few stray clash = simp (few, stray, clash)
 
-pub follows : (s : System) (index : List ℕ) (r : Region) (known : Snapshot) → known.initialized ≡ true → touched_unfit s index r known ≡ 0 → Follows s r known
-unfolding touched_unfit
+pub follows : (s : System) (index : List ℕ) (r : Region) (known : Snapshot) → known.initialized ≡ true → touched_check s index r known ≡ Ok tt → Follows s r known
+unfolding touched_check
 follows s index r known init e =
-    let full = passed (overfull_by s r known) 9 _ e in
-    let rank = passed (ltb (min s.rows s.atoms) s.rank) 12 _ full.1 in
-    let room = passed (ltb (length index) (s.atoms * column_width s.rank)) 8 _ rank.1 in
-    let stray = passed (strayed r) 10 _ room.1 in
-    let clash = passed (clashes r) 11 _ stray.1 in
-    let bits = passed (not s.refuted && over_rank s.rank (column_width s.rank) index s.atoms) 13 _ clash.1 in
-    let counts = passed (unequal s r known) 14 _ bits.1 in
-    let kept = (passed (missing r known) 15 0 counts.1).0 in
+    let full = passed (overfull_by s r known) _ _ e in
+    let rank = passed (ltb (min s.rows s.atoms) s.rank) _ _ full.1 in
+    let room = passed (ltb (length index) (s.atoms * column_width s.rank)) _ _ rank.1 in
+    let stray = passed (strayed r) _ _ room.1 in
+    let clash = passed (clashes r) _ _ stray.1 in
+    let bits = passed (not s.refuted && over_rank s.rank (column_width s.rank) index s.atoms) _ _ clash.1 in
+    let counts = passed (unequal s r known) _ _ bits.1 in
+    let kept = (passed (missing r known) _ _ counts.1).0 in
     let few = (or_none (ltb 512 r.atoms) _ (or_none (overfull s.atoms s.rows) _ full.0).1).0 in
     let equal = or_none (not (eqb r.atoms s.atoms)) _ counts.0 in
     let held = subset (set_of known.held) (set_of r.held) in
@@ -148,31 +151,31 @@ decided_below r a e = go (ltb a r.atoms) refl
 -- ---- the promise
 
 -- a fit column is its part of the index
-pub column_part : (index : List ℕ) (n rank : ℕ) (a : Atom) → column_unfit index n rank a ≡ 0
-    → part_of (column_width rank) index a.0 ≡ wanted_column index n rank a
+pub column_part : (index : List ℕ) (n rank : ℕ) (a : Atom) → column_check index n rank a ≡ Ok tt
+    → unwrap_or (part_of (column_width rank) index a.0) [] ≡ wanted_column index n rank a
 unfolding wanted_column
 column_part index n rank a e =
-    wanted_part index n rank a e ∙ sym (ap (λ (k : ℕ). cond (eqb k 0) (row (column_width rank) index a.0) []) e)
+    ap (λ (o : Option (List ℕ)). unwrap_or o []) (wanted_part index n rank a e) ∙ sym (ap (λ check. left check (row (column_width rank) index a.0) []) e)
 
-module _ (n m : ℕ) (l : Lent) (number : (prepare_of n m l).0.number ≡ 0) (sound : (prepare_of n m l).0.system.refuted ≡ false) where
+module _ (n m : ℕ) (l : Lent) (number : prepare_check n m l ≡ Ok tt) (sound : (prepared n m l).0.system.refuted ≡ false) where
   abbrev rank : ℕ
-  rank = (prepare_of n m l).0.system.rank
+  rank = (prepared n m l).0.system.rank
 
   abbrev index : List ℕ
-  index = (prepare_of n m l).1.index
+  index = (prepared n m l).1.index
 
   -- the part of the index at an atom tells of each basis row whether it has the atom
   pub part_tells : (a j : ℕ) → a < n → j < rank
-      → has (set_of (part_of (column_width rank) index a)) j ≡ has_atom (row_left n (prepare_of n m l) (get_or (prepare_of n m l).1.basis j 0)) a
+      → marked (column_width rank) index a j ≡ has_atom (row_left n (prepared n m l) (get_or (prepared n m l).1.basis j 0)) a
   part_tells a j h lt =
       let atom : Atom = record { 0 = a } in
       let tells = column_tells n m l atom number h sound in
       ap (λ (c : List ℕ). has (set_of c) j) (column_part index n rank atom tells.0) ∙ tells.2 j
-      ∙ ap (λ (t : Bool). t && has_atom (row_left n (prepare_of n m l) (get_or (prepare_of n m l).1.basis j 0)) a) (lt-ltb j rank lt)
+      ∙ ap (λ (t : Bool). t && has_atom (row_left n (prepared n m l) (get_or (prepared n m l).1.basis j 0)) a) (lt-ltb j rank lt)
 
-  touches : (r : Region) (known : Snapshot) → known.initialized ≡ true → Follows (prepare_of n m l).0.system r known → Touches n (prepare_of n m l) r known
+  touches : (r : Region) (known : Snapshot) → known.initialized ≡ true → Follows (prepared n m l).0.system r known → Touches n (prepared n m l) r known
   touches r known init f j lt =
-      let s = (prepare_of n m l).0.system in
+      let s = (prepared n m l).0.system in
       let w = column_width rank in
       let count : r.atoms ≡ n = f.atoms ∙ (prepare_fits n m l number).atoms in
       let at = touched_at rank index r known j lt ∙ ap (λ (i : Bool). not i || marks (newly r known) w index j r.atoms) init in (
@@ -190,4 +193,4 @@ module _ (n m : ℕ) (l : Lent) (number : (prepare_of n m l).0.number ≡ 0) (so
 
 pub touched_exact : TouchedExact
 touched_exact n m l r known number sound init e =
-    touches n m l number sound r known init (follows (prepare_of n m l).0.system (prepare_of n m l).1.index r known init e)
+    touches n m l number sound r known init (follows (prepared n m l).0.system (prepared n m l).1.index r known init e)

@@ -1,13 +1,13 @@
 -- Knowledge: the region that was published last, if any was, and whether it is an ancestor of a region.
-use Rattle.std.specs.Prelude.{Bool, true, false, not, ◌&&◌, ◌||◌, replicate, ltb, eqb}
+use Rattle.std.specs.Prelude.{Bool, true, false, not, ◌&&◌, ◌||◌, replicate, ltb, eqb, Result}
 use Rattle.words.specs.Set.{set_of, subset}
-use Rattle.fit.specs.Refusal.{or_refused}
+use Rattle.refusal.specs.Refusal.{left}
+use Rattle.refusal.specs.declared.Refusal.{Refusal}
 use Rattle.fit.specs.Rows.{limit, overfull}
 use Rattle.parity.specs.declared.System.{System}
 use Rattle.region.specs.declared.Region.{Region}
-use Rattle.region.specs.Calls.{region_unfit}
+use Rattle.region.specs.Calls.{region_check}
 use Rattle.snapshot.specs.declared.Snapshot.{Snapshot}
-use Rattle.snapshot.specs.declared.Published.{Published}
 
 -- "Fresh knowledge is uninitialised, words and atom count 0"
 abbrev pub fresh : Snapshot
@@ -18,9 +18,8 @@ abbrev pub published : Region → Snapshot
 published r = record { initialized = true; atoms = r.atoms; held = r.held; cut = r.cut }
 
 -- A region that is refused leaves the knowledge as it was.
-unfoldable pub publish_of : Snapshot → Region → Published
-publish_of known r =
-    or_refused (region_unfit r) (record { number = 0; known = published r }) (λ number. record { number = number; known = known })
+unfoldable pub publish_of : Snapshot → Region → Result Unit Refusal × Snapshot
+publish_of known r = (region_check r, left (region_check r) (published r) known)
 
 -- "10: over 512 atoms or rows", of system, region and initialised knowledge
 abbrev pub overfull_by : System → Region → Snapshot → Bool

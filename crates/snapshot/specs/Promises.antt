@@ -1,15 +1,15 @@
 -- The theorem of `snapshot`, as a statement; src/promises.rt holds it.
-use Rattle.std.specs.Prelude.{ℕ, ◌<◌, ◌≡◌, ◌↔◌, true, false, get_or}
+use Rattle.std.specs.Prelude.{ℕ, ◌<◌, ◌≡◌, ◌↔◌, true, false, get_or, Ok}
 use Rattle.std.proofs.Math.Option.{none}
 use Rattle.words.specs.Set.{set_of}
 use Rattle.rows.specs.Row.{has_atom}
 use Rattle.rows.specs.Decisions.{Decisions}
-use Rattle.parity.specs.Prepare.{Lent, prepare_of}
+use Rattle.parity.specs.Prepare.{Lent, prepare_check, prepared}
 use Rattle.parity.specs.Promises.{row_left}
 use Rattle.parity.specs.declared.Prepared.{Prepared}
 use Rattle.region.specs.Masks.{decisions_of, decisions, is_open}
 use Rattle.region.specs.declared.Region.{Region}
-use Rattle.snapshot.specs.Touch.{touched_of, touched_unfit}
+use Rattle.snapshot.specs.Touch.{touched_of, touched_check}
 use Rattle.snapshot.specs.declared.Snapshot.{Snapshot}
 
 -- The decisions that were published.
@@ -29,6 +29,6 @@ Touches n p r known =
 
 abbrev pub TouchedExact : Type 0
 TouchedExact = (n m : ℕ) (l : Lent) (r : Region) (known : Snapshot)
-    → let p = prepare_of n m l in
-    p.0.number ≡ 0 → p.0.system.refuted ≡ false → known.initialized ≡ true
-    → touched_unfit p.0.system p.1.index r known ≡ 0 → Touches n p r known
+    → let p = prepared n m l in
+    prepare_check n m l ≡ Ok tt → p.0.system.refuted ≡ false → known.initialized ≡ true
+    → touched_check p.0.system p.1.index r known ≡ Ok tt → Touches n p r known

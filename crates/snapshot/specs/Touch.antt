@@ -1,10 +1,12 @@
 -- The basis rows that decisions touch. Place j of a list is ordinal j.
-use Rattle.std.specs.Prelude.{ℕ, zero, suc, ◌*◌, min, List, [], ◌∷◌, Bool, false, not, ◌&&◌, ◌||◌, length, ltb}
+use Rattle.std.specs.Prelude.{ℕ, zero, suc, ◌*◌, min, List, [], ◌∷◌, Bool, false, not, ◌&&◌, ◌||◌, length, ltb, unwrap_or, Result}
 use Rattle.std.specs.Bool.{xor}
 use Rattle.words.specs.Set.{set_of, has}
 use Rattle.rows.specs.Flat.{mask_of, unpack}
 use Rattle.rows.specs.Calls.{part_of}
-use Rattle.fit.specs.Refusal.{refusal, or_refused}
+use Rattle.refusal.specs.Refusal.{checked, answered}
+use Rattle.refusal.specs.declared.Refusal.{Refusal}
+use Rattle.refusal.specs.declared.Refusal.TheVariants.{Short, Overfull, Stray, Clash, Basis, Index, Unequal, Missing}
 use Rattle.index.specs.Index.{column_width}
 use Rattle.index.specs.Column.{over_rank}
 use Rattle.parity.specs.declared.System.{System}
@@ -12,7 +14,6 @@ use Rattle.region.specs.declared.Region.{Region}
 use Rattle.region.specs.Calls.{strayed, clashes}
 use Rattle.snapshot.specs.declared.Snapshot.{Snapshot}
 use Rattle.snapshot.specs.declared.Ordinals.{Ordinals}
-use Rattle.snapshot.specs.declared.Selected.{Selected}
 use Rattle.snapshot.specs.Knowledge.{overfull_by, unequal, missing}
 
 -- "(held or cut) XOR old held XOR old cut", of one atom
@@ -20,10 +21,14 @@ abbrev pub newly : Region → Snapshot → ℕ → Bool
 newly r known a =
     xor (xor (has (set_of r.held) a || has (set_of r.cut) a) (has (set_of known.held) a)) (has (set_of known.cut) a)
 
+-- Whether the column of w words of an atom marks row j; one that does not lie within the index marks none.
+abbrev pub marked : ℕ → List ℕ → ℕ → ℕ → Bool
+marked w index a j = has (set_of (unwrap_or (part_of w index a) [])) j
+
 -- Whether the columns of w words mark row j for one of these atoms, all of them below n.
 unfoldable pub marks : (ℕ → Bool) → ℕ → List ℕ → ℕ → ℕ → Bool
 marks atoms w index j zero = false
-marks atoms w index j (suc n) = marks atoms w index j n || (atoms n && has (set_of (part_of w index n)) j)
+marks atoms w index j (suc n) = marks atoms w index j n || (atoms n && marked w index n j)
 
 -- The first so many values of a test.
 unfoldable pub listed : ℕ → (ℕ → Bool) → List Bool
@@ -41,20 +46,18 @@ unfoldable pub ordinals_of : List Bool → Ordinals
 ordinals_of rows = record { words = unpack 64 8 (mask_of rows) }
 
 -- 10, "13: rank above min(m, n)", "9: .. index n columns", 11 and 12 of the region, 14 "not checked where the system is refuted", 15, 16
-unfoldable pub touched_unfit : System → List ℕ → Region → Snapshot → ℕ
-touched_unfit s index r known =
-    refusal (
-    (10, overfull_by s r known) ∷
-    (13, ltb (min s.rows s.atoms) s.rank) ∷
-    (9, ltb (length index) (s.atoms * column_width s.rank)) ∷
-    (11, strayed r) ∷
-    (12, clashes r) ∷
-    (14, not s.refuted && over_rank s.rank (column_width s.rank) index s.atoms) ∷
-    (15, unequal s r known) ∷
-    (16, missing r known) ∷
+unfoldable pub touched_check : System → List ℕ → Region → Snapshot → Result Unit Refusal
+touched_check s index r known =
+    checked (
+    (Overfull, overfull_by s r known) ∷
+    (Basis, ltb (min s.rows s.atoms) s.rank) ∷
+    (Short, ltb (length index) (s.atoms * column_width s.rank)) ∷
+    (Stray, strayed r) ∷
+    (Clash, clashes r) ∷
+    (Index, not s.refuted && over_rank s.rank (column_width s.rank) index s.atoms) ∷
+    (Unequal, unequal s r known) ∷
+    (Missing, missing r known) ∷
     [])
 
-unfoldable pub selected_of : System → List ℕ → Region → Snapshot → Selected
-selected_of s index r known =
-    or_refused (touched_unfit s index r known) (record { number = 0; rows = ordinals_of (touched_of s.rank index r known) })
-    (λ number. record { number = number; rows = ordinals_of [] })
+unfoldable pub selected_of : System → List ℕ → Region → Snapshot → Result Ordinals Refusal
+selected_of s index r known = answered (touched_check s index r known) (ordinals_of (touched_of s.rank index r known))

@@ -5,21 +5,22 @@
 ghost use Rattle.std.specs.Prelude.{◌≡◌, not, ◌&&◌, ◌%◌, ◌^◌, ◌≤◌, length, eqb};
 ghost use Rattle.words.specs.Set.{set_of, has, subset};
 ghost use Rattle.rows.specs.Flat.{unpack};
-ghost use Rattle.index.specs.Column.{column_unfit};
+ghost use Rattle.refusal.specs.Refusal.{number_in};
+ghost use Rattle.index.specs.Column.{column_check};
 ghost use Rattle.snapshot.specs.Knowledge.{fresh, publish_of, overfull_by, unequal, missing};
 ghost use Rattle.snapshot.specs.Steps.{Adds};
-ghost use Rattle.snapshot.specs.Touch.{marks, touched_of, ordinals_of, touched_unfit, selected_of};
+ghost use Rattle.snapshot.specs.Touch.{marks, touched_of, ordinals_of, touched_check, selected_of};
 
+use fit::LIMIT;
 use parity::System;
+use refusal::Refusal;
 use region::Region;
 use rows::Atom;
 
 pub mod promises;
 
-// The most atoms, and the most rows.
-const LIMIT: usize = 512;
-
-// The region of the last inspection that was published, if any was.
+// The region of the last inspection that was published, if any was: a flag beside its values and no Option, since C lends this very
+// record by reference.
 #[repr(C)]
 #[derive(Clone, Copy)]
 pub struct Snapshot {
@@ -29,14 +30,6 @@ pub struct Snapshot {
     pub cut: [u64; 8],
 }
 
-// Knowledge after a publication, beside the number under which it is refused, or 0.
-#[repr(C)]
-#[derive(Clone, Copy)]
-pub struct Published {
-    pub number: usize,
-    pub known: Snapshot,
-}
-
 // A set of basis rows, bit j of it for ordinal j.
 #[repr(C)]
 #[derive(Clone, Copy)]
@@ -44,23 +37,11 @@ pub struct Ordinals {
     pub words: [u64; 8],
 }
 
-// The basis rows that are touched, beside the number under which the call is refused, or 0.
-#[repr(C)]
-#[derive(Clone, Copy)]
-pub struct Selected {
-    pub number: usize,
-    pub rows: Ordinals,
-}
-
 // Whether each atom of one mask is in the other.
 fn within<'a>(left: &'a [u64; 8], right: &'a [u64; 8]) -> bool
     ensures { result ≡ subset (set_of left.now) (set_of right.now) }
 {
-    match words::is_subset_of(left, right) {
-        words::Verdict::Yes => true,
-        words::Verdict::No => false,
-        words::Verdict::Unequal => false,
-    }
+    words::is_subset_of(left, right).unwrap_or(false)
 }
 
 impl Snapshot {
@@ -77,72 +58,42 @@ impl Snapshot {
     }
 
     // Publishes a region: "it sets the count to n". A region that is refused alters nothing.
-    pub fn publish(self, region: Region) -> Published
-        ensures { result ≡ publish_of self region }
+    #[tactic(auto, unfolding(crate::specs::Knowledge::publish_of))]
+    pub fn publish(&mut self, region: Region) -> Result<(), Refusal>
+        ensures { (result, self.new) ≡ publish_of self.old region }
     {
-        let number = region.number();
-        if number != 0 {
-            return Published {
-                number: number,
-                known: self,
-            };
-        }
-        let held = region.held;
-        let cut = region.cut;
-        Published {
-            number: 0,
-            known: Snapshot {
-                initialized: true,
-                atoms: region.atoms,
-                held: held,
-                cut: cut,
-            },
-        }
+        region.check()?;
+        *self = Snapshot {
+            initialized: true,
+            atoms: region.atoms,
+            held: region.held,
+            cut: region.cut,
+        };
+        Ok(())
     }
 
     // Whether the knowledge or the region is of more than 512 atoms, or the system of more than 512 atoms or rows.
     pub fn overfull(self, system: System, region: Region) -> bool
         ensures { result ≡ overfull_by system region self }
     {
-        if system.atoms > LIMIT {
-            return true;
-        }
-        if system.rows > LIMIT {
-            return true;
-        }
-        if region.atoms > LIMIT {
-            return true;
-        }
-        if !self.initialized {
-            return false;
-        }
-        self.atoms > LIMIT
+        system.atoms > LIMIT
+            || system.rows > LIMIT
+            || region.atoms > LIMIT
+            || (self.initialized && self.atoms > LIMIT)
     }
 
     // Whether system, region and knowledge differ in their atom counts.
     pub fn unequal(self, system: System, region: Region) -> bool
         ensures { result ≡ unequal system region self }
     {
-        if region.atoms != system.atoms {
-            return true;
-        }
-        if !self.initialized {
-            return false;
-        }
-        self.atoms != region.atoms
+        region.atoms != system.atoms || (self.initialized && self.atoms != region.atoms)
     }
 
     // Whether an old decision is missing from the region.
     pub fn missing(self, region: Region) -> bool
         ensures { result ≡ missing region self }
     {
-        if !self.initialized {
-            return false;
-        }
-        if !within(&self.held, &region.held) {
-            return true;
-        }
-        !within(&self.cut, &region.cut)
+        self.initialized && !(within(&self.held, &region.held) && within(&self.cut, &region.cut))
     }
 }
 
@@ -161,35 +112,31 @@ fn keep_below(rows: &mut [u64], rank: usize)
     ensures { rows.new ≡ unpack 64 (length rows.old) (set_of rows.old % 2 ^ rank) }
 {
     let mut left = rank;
-    let mut i = 0;
-    while i < rows.len() {
-        rows[i] = first_bits(left, rows[i]);
-        left = left - fit::least(left, 64);
-        i += 1;
+    for word in rows.iter_mut() {
+        *word = first_bits(left, *word);
+        left = left.saturating_sub(64);
     }
 }
 
-// Adds the rows that a column marks, as far as the words for them go.
+// Adds the rows that a column marks, as far as the words for them go. (By place: after `iter_mut` with `zip` a proof knows nothing of what was
+// written.)
 fn join(rows: &mut [u64], column: &[u64])
     ensures { Adds rows.old (has (set_of column.now)) rows.new }
 {
-    let end = fit::least(rows.len(), column.len());
-    let mut i = 0;
-    while i < end {
-        rows[i] = rows[i] | column[i];
-        i += 1;
+    for i in 0..rows.len().min(column.len()) {
+        rows[i] |= column[i];
     }
 }
 
-// Adds the rows that the columns of the atoms below n mark.
+// Adds the rows that the columns of the atoms below n mark, as far as the index has them.
 fn join_columns(rows: &mut [u64], atoms: &[u64; 8], index: &[u64], width: usize, n: usize)
-    requires { n ≤ 512 }
     ensures { Adds rows.old (λ j. marks (has (set_of atoms.now)) width index.now j n) rows.new }
 {
-    let mut a = region::next(atoms, 0);
-    while a < n {
-        join(rows, index::column_at(index, width, Atom(a)));
-        a = region::next(atoms, a + 1);
+    for a in region::atoms_below(atoms, n) {
+        let Some(column) = index::column_at(index, width, Atom(a)) else {
+            continue;
+        };
+        join(rows, column);
     }
 }
 
@@ -198,74 +145,75 @@ pub fn select(rank: usize, index: &[u64], region: Region, known: Snapshot) -> Or
     ensures { result ≡ ordinals_of (touched_of rank index.now region known) }
 {
     if !known.initialized {
-        let mut all = [0xffff_ffff_ffff_ffffu64; 8];
-        keep_below(&mut all, rank);
-        return Ordinals { words: all };
+        let mut words = [0xffff_ffff_ffff_ffffu64; 8];
+        keep_below(&mut words, rank);
+        return Ordinals { words };
     }
     let mut atoms = region.held;
     words::union_assign(&mut atoms, &region.cut);
     words::xor_assign(&mut atoms, &known.held);
     words::xor_assign(&mut atoms, &known.cut);
-    let mut rows = [0u64; 8];
-    let n = fit::least(region.atoms, LIMIT);
-    join_columns(&mut rows, &atoms, index, index::column_width(rank), n);
-    keep_below(&mut rows, rank);
-    Ordinals { words: rows }
+    let mut words = [0u64; 8];
+    join_columns(
+        &mut words,
+        &atoms,
+        index,
+        index::column_width(rank),
+        region.atoms,
+    );
+    keep_below(&mut words, rank);
+    Ordinals { words }
 }
 
 // Whether the index of a system that is not refuted has a bit from the rank on, within the columns of its atoms: false where it has not
 // that many columns, or atoms or rank are above 512.
 pub fn past_rank(system: System, index: &[u64]) -> bool
-    ensures { result ≡ (not system.refuted && eqb (column_unfit index.now system.atoms system.rank (record { 0 = 0 })) 14) }
+    ensures { result ≡ (not system.refuted && eqb (number_in (column_check index.now system.atoms system.rank (record { 0 = 0 }))) 14) }
 {
-    if system.refuted {
-        return false;
-    }
-    index::column_number(index, system.atoms, system.rank, Atom(0)) == 14
+    !system.refuted
+        && matches!(
+            index::check_column(index, system.atoms, system.rank, Atom(0)),
+            Err(Refusal::Index)
+        )
 }
 
-// The number under which `touched` refuses, or 0.
-fn unfit(system: System, index: &[u64], region: Region, known: Snapshot) -> usize
-    ensures { result ≡ touched_unfit system index.now region known }
+// Whether what `touched` is asked is fit.
+#[tactic(auto, unfolding(crate::specs::Touch::touched_check, region::specs::Calls::region_check))]
+fn check(system: System, index: &[u64], region: Region, known: Snapshot) -> Result<(), Refusal>
+    ensures { result ≡ touched_check system index.now region known }
 {
     if known.overfull(system, region) {
-        return 10;
+        return Err(Refusal::Overfull);
     }
-    if system.rank > fit::least(system.rows, system.atoms) {
-        return 13;
+    if system.rank > system.rows.min(system.atoms) {
+        return Err(Refusal::Basis);
     }
     if index.len() < system.atoms * index::column_width(system.rank) {
-        return 9;
+        return Err(Refusal::Short);
     }
-    let number = region.number();
-    if number != 0 {
-        return number;
-    }
+    region.check()?;
     if past_rank(system, index) {
-        return 14;
+        return Err(Refusal::Index);
     }
     if known.unequal(system, region) {
-        return 15;
+        return Err(Refusal::Unequal);
     }
     if known.missing(region) {
-        return 16;
+        return Err(Refusal::Missing);
     }
-    0
+    Ok(())
 }
 
 // The basis rows that are touched, or the refusal.
-pub fn touched(system: System, index: &[u64], region: Region, known: Snapshot) -> Selected
+#[tactic(auto, unfolding(crate::specs::Touch::selected_of))]
+pub fn touched(
+    system: System,
+    index: &[u64],
+    region: Region,
+    known: Snapshot,
+) -> Result<Ordinals, Refusal>
     ensures { result ≡ selected_of system index.now region known }
 {
-    let number = unfit(system, index, region, known);
-    if number != 0 {
-        return Selected {
-            number: number,
-            rows: Ordinals { words: [0; 8] },
-        };
-    }
-    Selected {
-        number: 0,
-        rows: select(system.rank, index, region, known),
-    }
+    check(system, index, region, known)?;
+    Ok(select(system.rank, index, region, known))
 }

@@ -23,7 +23,7 @@ fn answer_read<R: Read, W: Write>(
     ensures { OnOk result (IfSome (R.remaining from.old) (λ bytes. Appends (W.contents to.old) (W.contents to.new) (text_of bytes))) }
 {
     let n = buffer::read_full(from, file)?;
-    let length = answer::answer(&file[..n], out).length;
+    let length = answer::answer(&file[..n], out).unwrap();
     to.write_all(&out[..length])
 }
 

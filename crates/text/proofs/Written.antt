@@ -1,13 +1,13 @@
 -- Texts written one after another are their concatenation written.
-use Prim.Native.Nat.{ℕ, suc, ◌+◌, ◌≤◌, ◌<◌, min}
+use Prim.Native.Nat.{ℕ, suc, ◌+◌, ◌-◌, ◌≤◌, min}
 use mathlib.Core.Path.{◌≡◌, refl, sym, ap, subst, ◌∙◌}
 use mathlib.Core.List.{List, [], ◌∷◌, ◌++◌}
 use native.Mathlib.Nat.{add-suc, suc-add, add-zero}
-use native.Mathlib.Numerals.{add-one}
 use native.Mathlib.Decide.{dec_le}
 use native.Mathlib.Omega.{arith}
-use lib.ListN.{length, get_or, set, take, drop, length-append}
-use lib.Seq.{sets, sets-eq, length-sets, set_out, take-suc, take_all}
+use lib.ListN.{length, set, take, drop, length-append}
+use lib.Seq.{sets, sets-eq, length-sets, set_out, drop-drop}
+use Rattle.std.proofs.lemmas.List.{take-append-drop, length-take-le, drop_all, append_assoc}
 use Rattle.text.specs.Text.{Wrote}
 
 pub sets_append : (l : List ℕ) (i : ℕ) (s t : List ℕ) → sets l i (s ++ t) ≡ sets (sets l i s) (i + length s) t
@@ -41,17 +41,23 @@ wrote_both {l} {m} {n} {s} {t} {p} {q} {r} v w = record {
 pub wrote_is : {l m s t : List ℕ} {p q : ℕ} → s ≡ t → Wrote l p s m q → Wrote l p t m q
 wrote_is {l} {m} {s} {t} {p} {q} e w = subst (λ (x : List ℕ). Wrote l p x m q) e w
 
--- a word byte by byte: nothing of it, one more byte, all of it
-pub wrote_start : (l : List ℕ) (p : ℕ) {q : ℕ} → q ≡ min p (length l) → Wrote l p [] l q
-wrote_start l p e = record { place = e ∙ ap (λ (q : ℕ). min q (length l)) (sym (add-zero p)); bytes = refl }
+-- a word, as far as there is room for it: its first bytes take the place of as many
+pub wrote_cut : (l : List ℕ) (p : ℕ) (s : List ℕ) (fits n : ℕ) → p ≤ length l → fits ≡ min (length s) (length l - p) → n ≡ fits
+    → Wrote l p s (take p l ++ (take fits s ++ drop n (drop p l))) (p + fits)
+wrote_cut l p s fits n h e g = record {
+  place = omega arith;
+  bytes =
+      ap (λ (t : List ℕ). take p l ++ (take fits s ++ t)) (drop-drop n p l ∙ ap (λ (k : ℕ). drop (p + k) l) (g ∙ sym whole))
+      ∙ sym (append_assoc (take p l) (take fits s) (drop (p + length (take fits s)) l)) ∙ sym (sets-eq (take fits s) l p (omega (arith, whole)))
+      ∙ sym (rest (dec_le (length s) fits)) ∙ sym (sets_append l p (take fits s) (drop fits s)) ∙ ap (sets l p) (take-append-drop fits s);
+}
+  where
+    whole : length (take fits s) ≡ fits
+    whole = length-take-le fits s (omega arith)
 
-module _ (word : List ℕ) (i : ℕ) {l m : List ℕ} {p q : ℕ} where
-  pub wrote_next : {n : List ℕ} {r : ℕ} → i < length word → Wrote l p (take i word) m q → Wrote m q (get_or word i 0 ∷ []) n r
-      → Wrote l p (take (i + 1) word) n r
-  wrote_next h v w = wrote_is (sym (rw (add-one, take-suc word i 0))) (wrote_both v w)
-
-  pub wrote_all : length word ≤ i → Wrote l p (take i word) m q → Wrote l p word m q
-  wrote_all h w = wrote_is (take_all i word h) w
+    rest : Dec (length s ≤ fits) → sets (sets l p (take fits s)) (p + length (take fits s)) (drop fits s) ≡ sets l p (take fits s)
+    rest (yes k) = rw (drop_all fits s k)
+    rest (no k) = sets_out (sets l p (take fits s)) (p + length (take fits s)) (drop fits s) (omega (arith, whole, length-sets l p (take fits s)))
 
 -- with room for all of it
 pub wrote_whole : (l s m : List ℕ) (p q : ℕ) → Wrote l p s m q → p + length s ≤ length l

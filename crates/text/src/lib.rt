@@ -1,81 +1,69 @@
-// Text written into lent bytes: words, decimals, and the two in turn. Every call is total: it writes what fits from a place on and answers
-// the place after it, so that calls follow one another, and whether all of it fitted is asked once, of the whole text.
+// Text written into lent bytes: words, decimals, and the two in turn. Every call is total: it writes what fits behind what is already
+// written, and whether all of it fitted is asked once, of the whole text.
+// Not by `write!`: std says what was written only where that answers `Ok`, and no clause says that it does.
 #![tactic(auto)]
 
-ghost use Rattle.std.specs.Prelude.{◌≡◌, [], ◌∷◌, ◌+◌, ◌%◌, min};
-ghost use Rattle.text.specs.Text.{decimal_of, one_of, two_of, Wrote};
+ghost use Rattle.std.specs.Prelude.{◌≡◌, ◌≤◌, min, length};
+ghost use Rattle.text.specs.Text.{decimal_of, one_of, two_of};
 
 pub mod promises;
 
-fn least(a: usize, b: usize) -> usize
-    ensures { result ≡ min a b }
-{
-    if a <= b { a } else { b }
+// The bytes lent, and the place of the next one.
+#[derive(Drop)]
+pub struct Text<'a> {
+    pub out: &'a mut [u8],
+    pub at: usize,
+    pub ghost within: { at ≤ length out.now },
 }
 
-// The last digit of a number.
-fn digit(n: usize) -> u8
-    ensures { result ≡ 48 + n % 10 }
-{
-    48 + (n % 10) as u8
-}
+impl<'a> Text<'a> {
+    ghost use Rattle.text.specs.Puts.{Puts};
 
-fn put_byte(out: &mut [u8], at: usize, byte: u8) -> usize
-    ensures { Wrote out.old at (byte ∷ []) out.new result }
-{
-    if at < out.len() {
-        out[at] = byte;
-        return at + 1;
+    // From a place on, at most the end.
+    pub fn new(out: &'a mut [u8], at: usize) -> Text<'a>
+        ensures same_reference { result.out.ghost_name ≡ out.entry.ghost_name }
+        ensures bytes { result.out.now ≡ out.old }
+        ensures place { result.at ≡ min at (length out.old) }
+    {
+        let at = at.min(out.len());
+        Text { out, at }
     }
-    out.len()
-}
 
-// A word.
-pub fn put(out: &mut [u8], at: usize, word: &[u8]) -> usize
-    ensures { Wrote out.old at word.now out.new result }
-{
-    let mut place = least(at, out.len());
-    let mut i = 0;
-    while i < word.len() {
-        place = put_byte(out, place, word[i]);
-        i += 1;
+    // A word.
+    pub fn put(&mut self, word: &[u8])
+        ensures { Puts self.old word.now self.new }
+    {
+        let fits = word.len().min(self.out.len() - self.at);
+        let end = self.at + fits;
+        self.out[self.at..end].copy_from_slice(&word[..fits]);
+        self.at = end;
     }
-    place
-}
 
-// A number, in decimal without leading zeros.
-pub fn put_decimal(out: &mut [u8], at: usize, n: usize) -> usize
-    ensures { Wrote out.old at (decimal_of n) out.new result }
-{
-    if n < 10 {
-        return put_byte(out, at, digit(n));
+    // A number, in decimal without leading zeros.
+    pub fn put_decimal(&mut self, n: usize)
+        ensures { Puts self.old (decimal_of n) self.new }
+    {
+        if n >= 10 {
+            self.put_decimal(n / 10);
+        }
+        self.put(&[48 + (n % 10) as u8]);
     }
-    let last = put_decimal(out, at, n / 10);
-    put_byte(out, last, digit(n))
-}
 
-// A word, a number, a word.
-pub fn put_one(out: &mut [u8], at: usize, first: &[u8], a: usize, last: &[u8]) -> usize
-    ensures { Wrote out.old at (one_of first.now a last.now) out.new result }
-{
-    let number = put(out, at, first);
-    let rest = put_decimal(out, number, a);
-    put(out, rest, last)
-}
+    // A word, a number, a word.
+    pub fn put_one(&mut self, first: &[u8], a: usize, last: &[u8])
+        ensures { Puts self.old (one_of first.now a last.now) self.new }
+    {
+        self.put(first);
+        self.put_decimal(a);
+        self.put(last);
+    }
 
-// A word, a number, a word, a number, a word.
-pub fn put_two(
-    out: &mut [u8],
-    at: usize,
-    first: &[u8],
-    a: usize,
-    middle: &[u8],
-    b: usize,
-    last: &[u8],
-) -> usize
-    ensures { Wrote out.old at (two_of first.now a middle.now b last.now) out.new result }
-{
-    let number = put(out, at, first);
-    let rest = put_decimal(out, number, a);
-    put_one(out, rest, middle, b, last)
+    // A word, a number, a word, a number, a word.
+    pub fn put_two(&mut self, first: &[u8], a: usize, middle: &[u8], b: usize, last: &[u8])
+        ensures { Puts self.old (two_of first.now a middle.now b last.now) self.new }
+    {
+        self.put(first);
+        self.put_decimal(a);
+        self.put_one(middle, b, last);
+    }
 }

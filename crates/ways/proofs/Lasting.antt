@@ -12,7 +12,9 @@ use lib.Dec.{eqb}
 use Rattle.rows.specs.Row.{Assignment, meets_all}
 use Rattle.rows.specs.Decisions.{Decisions, agrees}
 use Rattle.rows.specs.declared.Atom.{Atom}
-use Rattle.fit.specs.Refusal.{or_refused}
+use Rattle.std.specs.Prelude.{Result, Ok, Err}
+use Rattle.refusal.specs.Refusal.{answered, number_in}
+use Rattle.refusal.specs.declared.Refusal.{Refusal}
 use Rattle.parity.specs.Prepare.{Lent}
 use Rattle.parity.specs.declared.System.{System}
 use Rattle.parity.specs.declared.Prepared.{Prepared}
@@ -23,10 +25,10 @@ use Rattle.region.specs.declared.Region.{Region}
 use Rattle.region.proofs.Masked.{decisions_back}
 use Rattle.region.proofs.Standing.{Gains, accepted_stands, others_stay}
 use Rattle.snapshot.specs.declared.Snapshot.{Snapshot}
-use Rattle.inspect.specs.Inspect.{Filled, step_number, told_of, outcome, inspect_unfit, inspected, inspect_of}
+use Rattle.inspect.specs.Inspect.{Filled, region_in, inspect_check, inspected, inspect_of}
 use Rattle.inspect.specs.Promises.{basis_in, filled_by}
 use Rattle.inspect.specs.Run.{Call, hold, cut, inspect, State, step, after}
-use Rattle.inspect.specs.declared.Step.TheVariants.{Refused}
+use Rattle.inspect.specs.declared.Inspected.{Inspected}
 use Rattle.inspect.proofs.Following.{chosen}
 use Rattle.inspect.proofs.Batches.{beq_self, beq_same, agrees_at}
 use Rattle.inspect.proofs.Inspections.{forced_follow}
@@ -51,20 +53,20 @@ agrees_fewer p q x long gains agree = agrees_each p x long (λ a v e. agrees_at 
 
 module _ (v : Bool) (r : Region) (a : Atom) (x : Assignment) where
   abbrev then : Decisions
-  then = decisions (deciding v r a).region
+  then = decisions (deciding v r a).1
 
   abbrev demanded : Bool → Bool
   demanded t = cond t (beq (get_or x a.0 false) v) true
 
-  decide_demands : agrees then x ≡ true → demanded (accepted (deciding v r a).answer) ≡ true
+  decide_demands : agrees then x ≡ true → demanded (accepted (deciding v r a).0) ≡ true
   decide_demands agree =
-      chosen (λ (t : Bool). t ≡ true) (accepted (deciding v r a).answer) (beq (get_or x a.0 false) v) true
+      chosen (λ (t : Bool). t ≡ true) (accepted (deciding v r a).0) (beq (get_or x a.0 false) v) true
       (λ e. ap (λ (b : Bool). beq b v) (agrees_at then x a.0 v agree (accepted_stands v r a e)) ∙ beq_self v) (λ e. refl)
 
-  decide_agrees : length x ≡ length then → agrees (decisions r) x ≡ true → demanded (accepted (deciding v r a).answer) ≡ true → agrees then x ≡ true
-  decide_agrees long agree = go (accepted (deciding v r a).answer) refl
+  decide_agrees : length x ≡ length then → agrees (decisions r) x ≡ true → demanded (accepted (deciding v r a).0) ≡ true → agrees then x ≡ true
+  decide_agrees long agree = go (accepted (deciding v r a).0) refl
     where
-      at : accepted (deciding v r a).answer ≡ true → get_or x a.0 false ≡ v → (b : ℕ) (w : Bool) → get_or then b none ≡ some w
+      at : accepted (deciding v r a).0 ≡ true → get_or x a.0 false ≡ v → (b : ℕ) (w : Bool) → get_or then b none ≡ some w
           → (t : Bool) → eqb b a.0 ≡ t → get_or x b false ≡ w
       at e h b w f true s =
           let same = eqb-true b a.0 s in
@@ -72,29 +74,28 @@ module _ (v : Bool) (r : Region) (a : Atom) (x : Assignment) where
           ap (λ (c : ℕ). get_or x c false) same ∙ h ∙ value
       at e h b w f false s = agrees_at (decisions r) x b w agree (sym ((others_stay v r a).0 b (eqb-false b a.0 s)) ∙ f)
 
-      go : (t : Bool) → accepted (deciding v r a).answer ≡ t → demanded t ≡ true → agrees then x ≡ true
+      go : (t : Bool) → accepted (deciding v r a).0 ≡ t → demanded t ≡ true → agrees then x ≡ true
       go true e h = agrees_each then x long (λ b w f. at e (beq_same (get_or x a.0 false) v h) b w f (eqb b a.0) refl)
       go false e h = ap (λ (p : Decisions). agrees p x) ((others_stay v r a).1 e) ∙ agree
 
 -- ---- inspect
 
 module _ (s : System) (l : Filled) (r : Region) (known : Snapshot) (atoms values : List ℕ) where
-  -- refused, it hands the region back
-  refused_back : (k : ℕ) → inspect_unfit s l r known (length atoms) (length values) ≡ suc k → (inspect_of s l r known atoms values).result.region ≡ r
-  unfolding inspect_of
-  refused_back k e =
-      ap (λ (j : ℕ).
-      (or_refused j (inspected s l r known atoms values) (λ number. outcome (told_of (Refused number) 0 0 0 r known) atoms values)).result.region) e
+  abbrev o : Result Inspected Refusal
+  o = (inspect_of s l r known atoms values).result
 
-  inspect_agrees : (x : Assignment)
-      → (step_number (inspect_of s l r known atoms values).result.answer ≡ 0 → meets_all (basis_in s l) x ≡ true) → agrees (decisions r) x ≡ true
-      → agrees (decisions (inspect_of s l r known atoms values).result.region) x ≡ true
-  inspect_agrees x met agree = go (inspect_unfit s l r known (length atoms) (length values)) refl
+  -- refused, it leaves the region
+  refused_back : (refusal : Refusal) → inspect_check s l r known (length atoms) (length values) ≡ Err refusal → region_in r o ≡ r
+  unfolding inspect_of
+  refused_back refusal e = ap (λ check. region_in r (answered check (inspected s l r known atoms values).result)) e
+
+  inspect_agrees : (x : Assignment) → (number_in o ≡ 0 → meets_all (basis_in s l) x ≡ true) → agrees (decisions r) x ≡ true
+      → agrees (decisions (region_in r o)) x ≡ true
+  inspect_agrees x met agree = go (inspect_check s l r known (length atoms) (length values)) refl
     where
-      go : (k : ℕ) → inspect_unfit s l r known (length atoms) (length values) ≡ k
-          → agrees (decisions (inspect_of s l r known atoms values).result.region) x ≡ true
-      go zero e = forced_follow s l r known atoms values x (met (inspect_taken s l r known atoms values e)) agree
-      go (suc k) e = ap (λ (q : Region). agrees (decisions q) x) (refused_back k e) ∙ agree
+      go : (check : Result Unit Refusal) → inspect_check s l r known (length atoms) (length values) ≡ check → agrees (decisions (region_in r o)) x ≡ true
+      go (Ok done) e = forced_follow s l r known atoms values x (met (inspect_taken s l r known atoms values e)) agree
+      go (Err refusal) e = ap (λ (q : Region). agrees (decisions q) x) (refused_back refusal e) ∙ agree
 
 -- ---- one call, and a list of them
 

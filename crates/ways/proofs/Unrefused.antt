@@ -7,26 +7,27 @@ use borrow.Author.Tests.{le-ltb, eq-eqb}
 use lib.ListN.{length, get_or}
 use lib.Dec.{ltb}
 use Rattle.rows.specs.Flat.{width_of}
-use Rattle.fit.specs.Refusal.{or_refused}
+use Rattle.std.specs.Prelude.{Ok}
+use Rattle.refusal.specs.Refusal.{answered}
 use Rattle.fit.proofs.Fitting.{Fit, strays_none, passed}
 use Rattle.fit.proofs.Naming.{names_none}
 use Rattle.parity.specs.Prepare.{Lent}
 use Rattle.parity.specs.Promises.{Fits}
 use Rattle.parity.specs.declared.System.{System}
 use Rattle.parity.specs.declared.Prepared.{Prepared}
-use Rattle.region.specs.Calls.{strayed, clashes, region_unfit}
+use Rattle.region.specs.Calls.{strayed, clashes, region_check}
 use Rattle.region.specs.declared.Region.{Region}
 use Rattle.inspect.proofs.Runs.{lent_fit}
-use Rattle.probe.specs.Probe.{probe_unfit, told_of, probed, probe_of}
+use Rattle.probe.specs.Probe.{probe_check, probed, probe_of}
 
 module _ (s : System) (ws cs ps : List ℕ) (r : Region) where
-  fits_unfit : Fit s.atoms s.rows ws cs → s.rank ≤ min s.rows s.atoms → min s.rows s.atoms ≤ length ps
-      → ((j : ℕ) → j < s.rank → get_or ps j 0 < s.rows) → region_unfit r ≡ 0 → r.atoms ≡ s.atoms → probe_unfit s ws cs ps r ≡ 0
-  unfolding probe_unfit region_unfit
-  fits_unfit fit ranked entries named region same =
-      let full = passed (ltb 512 r.atoms) 9 _ region in
-      let stray = passed (strayed r) 10 _ full.1 in
-      let clash = passed (clashes r) 11 _ stray.1 in
+  fits_checked : Fit s.atoms s.rows ws cs → s.rank ≤ min s.rows s.atoms → min s.rows s.atoms ≤ length ps
+      → ((j : ℕ) → j < s.rank → get_or ps j 0 < s.rows) → region_check r ≡ Ok tt → r.atoms ≡ s.atoms → probe_check s ws cs ps r ≡ Ok tt
+  unfolding probe_check region_check
+  fits_checked fit ranked entries named region same =
+      let full = passed (ltb 512 r.atoms) _ _ region in
+      let stray = passed (strayed r) _ _ full.1 in
+      let clash = passed (clashes r) _ _ stray.1 in
       simp (
         le-ltb 512 s.atoms fit.atoms,
         le-ltb 512 s.rows fit.rows,
@@ -42,16 +43,13 @@ module _ (s : System) (ws cs ps : List ℕ) (r : Region) where
         eq-eqb r.atoms s.atoms same,
       )
 
-module _ (n m : ℕ) (q : Prepared × Lent) (f : Fits n m q) (r : Region) (fit : region_unfit r ≡ 0) (atoms : r.atoms ≡ n) where
-  prepared_fit : probe_unfit q.0.system q.1.rows q.1.constants q.1.basis r ≡ 0
+module _ (n m : ℕ) (q : Prepared × Lent) (f : Fits n m q) (r : Region) (fit : region_check r ≡ Ok tt) (atoms : r.atoms ≡ n) where
+  prepared_fit : probe_check q.0.system q.1.rows q.1.constants q.1.basis r ≡ Ok tt
   prepared_fit =
-      fits_unfit q.0.system q.1.rows q.1.constants q.1.basis r (rw (f.atoms, f.rows) (lent_fit n m q f))
+      fits_checked q.0.system q.1.rows q.1.constants q.1.basis r (rw (f.atoms, f.rows) (lent_fit n m q f))
       (rw (f.atoms, f.rows) f.ranked) (rw (f.atoms, f.rows) f.entries) (λ j h. rw f.rows (f.named j h)) fit
       (rw f.atoms atoms)
 
-  pub prepared_probed : probe_of q.0.system q.1.rows q.1.constants q.1.basis r
-      ≡ probed q.0.system q.1.rows q.1.constants q.1.basis r
+  pub prepared_probed : probe_of q.0.system q.1.rows q.1.constants q.1.basis r ≡ Ok (probed q.0.system q.1.rows q.1.constants q.1.basis r)
   unfolding probe_of
-  prepared_probed =
-      ap (λ (k : ℕ).
-      or_refused k (probed q.0.system q.1.rows q.1.constants q.1.basis r) (λ number. told_of number false 0 0)) prepared_fit
+  prepared_probed = ap (λ check. answered check (probed q.0.system q.1.rows q.1.constants q.1.basis r)) prepared_fit

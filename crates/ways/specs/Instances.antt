@@ -1,7 +1,7 @@
 -- Two small systems that have demand 3's setting, each with several calls of which one is refused, and what is counted.
-use Rattle.std.specs.Prelude.{ℕ, ◌≡◌, List, [], ◌∷◌, true, false}
+use Rattle.std.specs.Prelude.{ℕ, ◌≡◌, List, [], ◌∷◌, true, false, Ok}
 use Rattle.rows.specs.Count.{count}
-use Rattle.parity.specs.Prepare.{Lent, lent, prepare_of}
+use Rattle.parity.specs.Prepare.{Lent, lent, prepared}
 use Rattle.inspect.specs.Inspect.{filled}
 use Rattle.inspect.specs.Promises.{filled_by}
 use Rattle.inspect.specs.Run.{Call, hold, cut, inspect, begins}
@@ -26,7 +26,7 @@ memory =
 -- Atom 1 is held, atom 4 is not there, an inspection settles 0 and 2, and holding 0 is then against: atom 3 is left, in two ways.
 abbrev pub calls : List Call
 calls =
-    let p = prepare_of 4 3 memory in
+    let p = prepared 4 3 memory in
     hold (record { 0 = 1 })
     ∷ hold (record { 0 = 4 })
     ∷ inspect p.0.system (filled_by p.1) (0 ∷ 0 ∷ []) (0 ∷ 0 ∷ [])
@@ -51,9 +51,9 @@ one_calls =
 
 -- What the probe says, and the number of ways.
 abbrev pub Counts : ℕ → ℕ → List Part → Lent → List Call → Probed → ℕ → Type 0
-Counts n m ps l cs q ways = Setting n m ps l cs × (probed_after n m l cs ≡ q) × (count n (way ps (begins n) cs) ≡ ways)
+Counts n m ps l cs q ways = Setting n m ps l cs × (probed_after n m l cs ≡ Ok q) × (count n (way ps (begins n) cs) ≡ ways)
 
 abbrev pub Instances : Type 0
 Instances =
-    Counts 4 3 parts memory calls (told_of 0 true 1 0) 2
-    × Counts 3 1 one_part one_memory one_calls (told_of 0 false 1 0) 0
+    Counts 4 3 parts memory calls (told_of true 1 0) 2
+    × Counts 3 1 one_part one_memory one_calls (told_of false 1 0) 0

@@ -1,12 +1,16 @@
 -- What the numbers mean as sets of atoms: the proofs of specs/Promises.antt.
 use Prim.Native.Nat.{ℕ, zero, suc, ◌+◌, ◌-◌, ◌*◌, ◌/◌, ◌%◌, ◌^◌, ◌≤◌, ◌<◌}
 use mathlib.Core.Path.{◌≡◌, refl, sym, ap, ap₂, ◌∙◌, subst}
-use mathlib.Core.List.{List, zip_with}
+use mathlib.Core.List.{List, [], ◌∷◌, ◌++◌, zip_with}
 use mathlib.Core.Bool.{Bool, true, false, cond, not, xor, ◌&&◌, ◌||◌, true≢false, false≢true}
-use native.Mathlib.Nat.{mod-lt, mod-eq_of_lt, mod-add-div', div-one, div-eq_of_lt, mul-div_cancel, one-mul, add_comm, zero-lt-suc, pow-suc, mul-mod_left, zero-div, le_refl}
-use native.Mathlib.Numerals.{one-add}
+use mathlib.Core.Logic.{inl, inr}
+use native.Mathlib.Nat.{mod-lt, mod-eq_of_lt, mod-add-div', div-one, div-eq_of_lt, mul-div_cancel, one-mul, add_comm, zero-lt-suc, pow-suc, mul-mod_left, zero-div, suc-mul, le_refl}
+use native.Mathlib.Numerals.{one-add, add-one}
 use native.Mathlib.Omega.{arith}
-use borrow.Author.Tests.{eq-eqb, eqb-true, eqb-false}
+use borrow.Author.Tests.{eq-eqb, ne_eqb, eqb-true, eqb-false}
+use Rattle.std.proofs.Math.Bool.{and-true}
+use Rattle.std.proofs.lemmas.Bool.{cases_lt}
+use Rattle.std.specs.Prelude.{Option, Some, None, Ok, Err}
 use lib.ListN.{length}
 use lib.Seq.{set_out}
 use lib.Dec.{eqb, eqb-suc-suc, eqb-zero-suc, eqb-suc-zero}
@@ -14,12 +18,15 @@ use lib.Bits.{bit_and, bit_or, bit_xor, or_zero_r, xor_add_and}
 use lib.Count.{ones, ones_cat}
 use lib.Pow.{pow_pos, pow-lt, pow-add, shr-shr, shr_lt, split}
 use Rattle.words.specs.Set.{set_of, digit, has, low}
-use Rattle.words.specs.Calls.{inserted, merged, narrow, first_of}
-use Rattle.words.specs.declared.Found.TheVariants.{At, Nothing, TooWide}
-use Rattle.words.specs.Promises.{AtomIsBit, SameAtoms, InsertAdds, MergeJoins, IntersectionShares, SubsetHolds, OnesCount, FirstIsLowest, StepVisits, atoms_below}
+use Rattle.words.specs.Calls.{inserted, merged, narrow, first_of, Visits}
+use Rattle.words.specs.declared.Unfit.TheVariants.{TooWide}
+use Rattle.words.specs.Promises.{AtomIsBit, SameAtoms, InsertAdds, MergeJoins, IntersectionShares, SubsetHolds, OnesCount, FirstIsLowest, StepVisits, BitsRise, atoms_below, atoms_in}
 use Rattle.words.proofs.Bitwise.{Bitwise, by_and, by_or, by_xor, one, two, digit_op, digit_ext, and_bit}
 use Rattle.words.proofs.Packed.{digit_at, digit_low, packed_set, packed_zip}
-use Rattle.words.proofs.Lowest.{Form, low_form, even_above}
+use Rattle.words.proofs.Counts.{ones_xor}
+use Rattle.words.proofs.Lowest.{Form, low_form, low_word, trailing_form, even_above}
+use Rattle.std.specs.Iterator.{AlwaysYields}
+use Rattle.words.specs.declared.SetBits.{SetBits}
 
 pub atom_is_bit : AtomIsBit
 atom_is_bit ws a = ap (λ (d : ℕ). eqb d 1) (digit_at 64 (zero-lt-suc 63) ws a)
@@ -148,8 +155,8 @@ low_lowest x h = (
 pub has_none : (b : ℕ) → has 0 b ≡ false
 has_none b = ap (λ (n : ℕ). eqb (n % 2) 1) (zero-div (2 ^ b))
 
-first_cases : (n e : Bool) (t : ℕ) → ((a : ℕ) → cond n (cond e Nothing (At t)) TooWide ≡ At a → (e ≡ false) × (t ≡ a))
-    × (cond n (cond e Nothing (At t)) TooWide ≡ Nothing → e ≡ true)
+first_cases : (n e : Bool) (t : ℕ) → ((a : ℕ) → cond n (Ok (cond e None (Some t))) (Err TooWide) ≡ Ok (Some a) → (e ≡ false) × (t ≡ a))
+    × (cond n (Ok (cond e None (Some t))) (Err TooWide) ≡ Ok None → e ≡ true)
 first_cases true true t = ((λ a p. (cc, cc)), (λ p. refl))
 first_cases true false t = ((λ a p. (refl, cc)), (λ p. cc))
 first_cases false e t = ((λ a p. (cc, cc)), (λ p. cc))
@@ -172,11 +179,109 @@ xor_out true false h = refl
 xor_out false true h = absurd (false≢true (h refl))
 xor_out false false h = refl
 
+one_less : (x : ℕ) → 0 < x → (bit_and x (2 ^ low x) ≡ 2 ^ low x) × (x - 2 ^ low x ≡ bit_xor x (2 ^ low x))
+one_less x h =
+    let t = low x in
+    let shared : bit_and x (2 ^ t) ≡ 2 ^ t = and_bit x t ∙ ap (λ (d : ℕ). d * 2 ^ t) (low_digit x t (low_form x h)) ∙ one-mul (2 ^ t) in
+    (shared, omega (arith, xor_add_and x (2 ^ t)))
+
 pub step_visits : StepVisits
 step_visits x a h =
     let t = low x in
-    let one = low_digit x t (low_form x h) in
-    let shared : bit_and x (2 ^ t) ≡ 2 ^ t = and_bit x t ∙ ap (λ (d : ℕ). d * 2 ^ t) one ∙ one-mul (2 ^ t) in
-    let less : x - 2 ^ t ≡ bit_xor x (2 ^ t) = omega (arith, xor_add_and x (2 ^ t)) in
-    ap (λ (n : ℕ). has n a) less ∙ has_xor x (2 ^ t) a ∙ ap (xor (has x a)) (has_one t a)
-    ∙ xor_out (has x a) (eqb a t) (λ e. ap (has x) (eqb-true a t e) ∙ ap (λ (d : ℕ). eqb d 1) one)
+    ap (λ (n : ℕ). has n a) (one_less x h).1 ∙ has_xor x (2 ^ t) a ∙ ap (xor (has x a)) (has_one t a)
+    ∙ xor_out (has x a) (eqb a t) (λ e. ap (has x) (eqb-true a t e) ∙ ap (λ (d : ℕ). eqb d 1) (low_digit x t (low_form x h)))
+
+-- ---- a visit
+
+ones_bit : (t : ℕ) → ones (2 ^ t) ≡ 1
+unfolding ones
+ones_bit t =
+    let whole : 2 ^ t ≡ 1 * 2 ^ t + 0 = omega arith in
+    ap ones whole ∙ ones_cat t 1 0 (pow_pos t)
+
+-- a step takes out one atom
+pub ones_less : (x : ℕ) → 0 < x → ones (x - 2 ^ low x) + 1 ≡ ones x
+ones_less x h =
+    let t = low x in
+    let e = one_less x h in
+    omega (arith, ones_xor x (2 ^ t), ap ones e.0, ap ones e.1, ones_bit t)
+
+and_false : (b : Bool) → (b && false) ≡ false
+and_false true = refl
+and_false false = refl
+
+none_in : (n x : ℕ) → ((b : ℕ) → b < n → has x b ≡ false) → atoms_in n x ≡ []
+unfolding atoms_in
+none_in zero x h = refl
+none_in (suc n) x h = ap₂ (λ (l : List ℕ) (t : Bool). l ++ cond t (n ∷ []) []) (none_in n x (λ b l. h b (omega arith))) (h n (omega arith))
+
+-- the atoms of x are its lowest, t, and those of y, which is x without t
+rise : (n x y t : ℕ) → t < n → has x t ≡ true → ((b : ℕ) → b < t → has x b ≡ false) → ((b : ℕ) → has y b ≡ (has x b && not (eqb b t)))
+    → atoms_in n x ≡ t ∷ atoms_in n y
+unfolding atoms_in
+rise zero x y t l at below rest = let z : ⊥ = omega arith in absurd z
+rise (suc n) x y t l at below rest = elim (cases_lt t n) [
+  | inl lt ↦
+      let same : has y n ≡ has x n = rest n ∙ ap (λ (e : Bool). has x n && not e) (ne_eqb n t (λ e. omega arith)) ∙ and-true (has x n) in
+      ap₂ (λ (m : List ℕ) (d : Bool). m ++ cond d (n ∷ []) []) (rise n x y t lt at below rest) (sym same)
+  | inr ge ↦
+      let last : t ≡ n = omega arith in
+      let gone : has y n ≡ false = rest n ∙ ap (λ (e : Bool). has x n && not e) (eq-eqb n t (sym last)) ∙ and_false (has x n) in
+      let before : (b : ℕ) → b < n → has y b ≡ false = λ b h. rest b ∙ ap (λ (d : Bool). d && not (eqb b t)) (below b (omega arith)) in
+      ap₂ (λ (m : List ℕ) (d : Bool). m ++ cond d (n ∷ []) []) (none_in n x (λ b h. below b (omega arith))) (ap (has x) (sym last) ∙ at)
+      ∙ ap (λ (m : ℕ). m ∷ []) (sym last)
+      ∙ ap (λ (m : List ℕ). t ∷ m) (sym (ap₂ (λ (m : List ℕ) (d : Bool). m ++ cond d (n ∷ []) []) (none_in n y before) gone))
+]
+
+-- what a step gives where x is left
+step_from : SetBits → Bool → Option ℕ × SetBits
+step_from s t = cond t (None, s) (Some (low s.remaining), record { remaining = s.remaining - 2 ^ low s.remaining })
+
+visit_more : (y : ℕ) (s j : SetBits) → eqb s.remaining 0 ≡ false → Visits s (Some y) j → (y ≡ low s.remaining) × (j.remaining ≡ s.remaining - 2 ^ low s.remaining)
+unfolding step_from
+visit_more y s j e v =
+    let p : (Some y, j) ≡ step_from s false = v ∙ ap (step_from s) e in
+    let q : Some y ≡ Some (low s.remaining) = ap (λ (q : Option ℕ × SetBits). q.0) p in
+    (cc, ap (λ (q : Option ℕ × SetBits). q.1.remaining) p)
+
+visit_end : (y : ℕ) (s j : SetBits) → eqb s.remaining 0 ≡ true → Visits s (Some y) j → ⊥
+unfolding step_from
+visit_end y s j e v =
+    let p : (Some y, j) ≡ step_from s true = v ∙ ap (step_from s) e in
+    let q : Some y ≡ None = ap (λ (q : Option ℕ × SetBits). q.0) p in
+    cc
+
+visit_on : (s j : SetBits) → eqb s.remaining 0 ≡ false → Visits s None j → ⊥
+unfolding step_from
+visit_on s j e v =
+    let p : (None, j) ≡ step_from s false = v ∙ ap (step_from s) e in
+    let q : None ≡ Some (low s.remaining) = ap (λ (q : Option ℕ × SetBits). q.0) p in
+    cc
+
+low_le : (x : ℕ) → 0 < x → 2 ^ low x ≤ x
+low_le x h = let f = low_form x h in omega (arith, f.is, suc-mul (f.half * 2) (2 ^ low x), ap (λ (m : ℕ). m * 2 ^ low x) (add-one (f.half * 2)))
+
+visits : (k : ℕ) (s : SetBits) → s.remaining < k → s.remaining < 2 ^ 64 → AlwaysYields Visits (λ a. a) s (atoms_in 64 s.remaining)
+visits zero s b h = let z : ⊥ = omega arith in absurd z
+visits (suc k) s b h = elim (cases_lt 0 s.remaining) [
+  | inl some ↦
+      let x = s.remaining in
+      let t = low x in
+      let step = low_le x some in
+      let l : t < 64 = omega (arith, low_word 64 x some h, (trailing_form 64 x some h).below) in
+      let at = low_lowest x some in
+      let on : eqb x 0 ≡ false = ne_eqb x 0 (λ z. omega arith) in
+      subst (λ (m : List ℕ). AlwaysYields Visits (λ a. a) s m) (sym (rise 64 x (x - 2 ^ t) t l at.0 at.1 (λ b. step_visits x b some))) (
+        λ j v. visit_on s j on v,
+        λ y j v.
+            let m = visit_more y s j on v in
+            (m.0, subst (λ (n : ℕ). AlwaysYields Visits (λ a. a) j (atoms_in 64 n)) m.1 (visits k j (omega (arith, m.1, pow_pos t)) (omega (arith, m.1)))),
+      )
+  | inr none ↦
+      let empty : s.remaining ≡ 0 = omega arith in
+      subst (λ (m : List ℕ). AlwaysYields Visits (λ a. a) s m) (sym (none_in 64 s.remaining (λ b l. ap (λ (n : ℕ). has n b) empty ∙ has_none b)))
+      (λ y j v. visit_end y s j (eq-eqb s.remaining 0 empty) v)
+]
+
+pub bits_rise : BitsRise
+bits_rise w h = visits (w + 1) (record { remaining = w }) (omega arith) h

@@ -1,12 +1,12 @@
 -- The theorems of `words`, as statements: that the numbers and lists which the contracts speak of have "these plain set meanings".
 -- src/promises.rt holds each.
-use Rattle.std.specs.Prelude.{ℕ, zero, suc, ◌+◌, ◌-◌, ◌/◌, ◌%◌, ◌^◌, ◌≤◌, ◌<◌, ◌≡◌, ◌↔◌, List, true, false, cond, not, ◌&&◌, ◌||◌, length, get_or, eqb}
+use Rattle.std.specs.Prelude.{ℕ, zero, suc, ◌+◌, ◌-◌, ◌/◌, ◌%◌, ◌^◌, ◌≤◌, ◌<◌, ◌≡◌, ◌↔◌, List, [], ◌∷◌, ◌++◌, Some, None, Ok, true, false, cond, not, ◌&&◌, ◌||◌, length, get_or, eqb}
 use Rattle.std.specs.Bool.{xor}
 use Rattle.std.specs.Int.Bits.{bit_and, bit_or, bit_xor}
 use Rattle.std.specs.Int.Count.{ones}
+use Rattle.std.specs.Iterator.{AlwaysYields}
 use Rattle.words.specs.Set.{set_of, has, subset, low}
-use Rattle.words.specs.Calls.{inserted, merged, first_of}
-use Rattle.words.specs.declared.Found.TheVariants.{At, Nothing}
+use Rattle.words.specs.Calls.{inserted, merged, first_of, Visits}
 
 -- "Atom a is bit a mod 64 of word a div 64."
 abbrev pub AtomIsBit : Type 0
@@ -47,9 +47,18 @@ OnesCount = (n x : ℕ) → x < 2 ^ n → ones x ≡ atoms_below n x
 -- "`first` gives the lowest set bit."
 abbrev pub FirstIsLowest : Type 0
 FirstIsLowest = (ws : List ℕ)
-    → ((a : ℕ) → first_of ws ≡ At a → (has (set_of ws) a ≡ true) × ((b : ℕ) → b < a → has (set_of ws) b ≡ false))
-    × (first_of ws ≡ Nothing → (b : ℕ) → has (set_of ws) b ≡ false)
+    → ((a : ℕ) → first_of ws ≡ Ok (Some a) → (has (set_of ws) a ≡ true) × ((b : ℕ) → b < a → has (set_of ws) b ≡ false))
+    × (first_of ws ≡ Ok None → (b : ℕ) → has (set_of ws) b ≡ false)
 
 -- A step of `bits` takes out just the atom that it visits.
 abbrev pub StepVisits : Type 0
 StepVisits = (x a : ℕ) → 0 < x → has (x - 2 ^ low x) a ≡ (has x a && not (eqb a (low x)))
+
+-- The atoms below n of a set, rising.
+unfoldable pub atoms_in : ℕ → ℕ → List ℕ
+atoms_in zero x = []
+atoms_in (suc n) x = atoms_in n x ++ cond (has x n) (n ∷ []) []
+
+-- A visit of `bits` gives each atom of the word once, rising, and then ends.
+abbrev pub BitsRise : Type 0
+BitsRise = (w : ℕ) → w < 2 ^ 64 → AlwaysYields Visits (λ a. a) (record { remaining = w }) (atoms_in 64 w)

@@ -3,11 +3,13 @@
 // nothing is changed and the answer says so; specs/Calls.antt has each call's definition.
 #![tactic(auto)]
 
-ghost use Rattle.std.specs.Prelude.{◌≡◌, ◌/◌, length, replicate, eqb, ltb};
+ghost use Rattle.std.specs.Prelude.{◌≡◌, ◌<◌, ◌^◌, ℕ, ◌/◌, ◌≢◌, MatchResult, length, replicate, eqb, ltb};
+ghost use Rattle.std.specs.Iterator.{at_most};
 ghost use Rattle.std.specs.Int.Bits.{bit_or, bit_xor};
 ghost use Rattle.std.specs.Int.Count.{ones};
 ghost use Rattle.words.specs.Set.{set_of, has};
-ghost use Rattle.words.specs.Calls.{place_of, next_of, inserted, merged, subset_of, parity_of, count_of, intersection_of, first_of};
+ghost use Rattle.words.specs.declared.Unfit.TheVariants.{Unequal};
+ghost use Rattle.words.specs.Calls.{place_of, Visits, inserted, merged, subset_of, parity_of, count_of, intersection_of, first_of};
 
 pub mod promises;
 
@@ -21,41 +23,17 @@ pub struct Place {
     pub bit: u64,
 }
 
-// The set bits of one word that are still to be visited.
+// The set bits of one word that are still to be visited, from the lowest up.
 #[derive(Clone, Copy)]
 pub struct SetBits {
     pub remaining: u64,
 }
 
-// A visit's next step: a bit, with those above it, or the end.
+// Why a call gives no answer: two sets differ in length, or one has more bits than a usize counts.
 #[derive(Clone, Copy)]
-pub enum Next {
-    Bit(usize, SetBits),
-    Done,
-}
-
-// The lowest atom of a set, if it has one.
-#[derive(Clone, Copy)]
-pub enum Found {
-    At(usize),
-    Nothing,
-    TooWide,
-}
-
-// A number of atoms.
-#[derive(Clone, Copy)]
-pub enum Counted {
-    Are(usize),
+pub enum Unfit {
     Unequal,
     TooWide,
-}
-
-// A yes or no about two sets of one width.
-#[derive(Clone, Copy)]
-pub enum Verdict {
-    Yes,
-    No,
-    Unequal,
 }
 
 pub fn locate(atom: usize) -> Place
@@ -74,27 +52,27 @@ pub fn popcount(word: u64) -> u32
     u64::count_ones(word)
 }
 
-// The set bits of one word, to be visited from the lowest up by `next`.
+// The set bits of one word, from the lowest up.
 pub fn bits(word: u64) -> SetBits
     ensures { result.remaining ≡ word }
 {
     SetBits { remaining: word }
 }
 
-impl SetBits {
-    pub fn next(self) -> Next
-        ensures { result ≡ next_of self }
-    {
+impl Iterator for SetBits {
+    type Item = usize;
+
+    ghost next_gives = { Visits };
+
+    ghost remaining = { λ s. at_most (ones s.remaining) };
+
+    fn next(&mut self) -> Option<usize> {
         let word = self.remaining;
         if word == 0 {
-            return Next::Done;
+            return None;
         }
-        Next::Bit(
-            u64::trailing_zeros(word) as usize,
-            SetBits {
-                remaining: word & (word - 1),
-            },
-        )
+        self.remaining = word & (word - 1);
+        Some(word.trailing_zeros() as usize)
     }
 }
 
@@ -111,6 +89,7 @@ pub fn contains(words: &[u64], atom: usize) -> bool
 }
 
 // Adds an atom, and says whether there was room for it.
+#[tactic(auto, unfolding(crate::specs::Calls::inserted))]
 pub fn insert(words: &mut [u64], atom: usize) -> bool
     ensures room { result ≡ ltb (atom / 64) (length words.old) }
     ensures words { words.new ≡ inserted words.old atom }
@@ -120,7 +99,7 @@ pub fn insert(words: &mut [u64], atom: usize) -> bool
     if words.len() <= word {
         return false;
     }
-    words[word] = words[word] | place.bit;
+    words[word] |= place.bit;
     true
 }
 
@@ -128,11 +107,22 @@ pub fn insert(words: &mut [u64], atom: usize) -> bool
 pub fn clear(words: &mut [u64])
     ensures { words.new ≡ replicate (length words.old) 0 }
 {
-    let mut i = 0;
-    while i < words.len() {
-        words[i] = 0;
-        i += 1;
+    words.fill(0);
+}
+
+// Joins two sets of one length word by word, and says whether they are of one length.
+fn merge<F: Fn(u64, u64) -> u64>(left: &mut [u64], right: &[u64], op: F) -> bool
+    requires { F.IsAlwaysCallable op }
+    ensures equal { result ≡ eqb (length left.old) (length right.now) }
+    ensures words { (f : ℕ → ℕ → ℕ) → ((a b : ℕ) → a < 2 ^ 64 → b < 2 ^ 64 → (r : ℕ) → F.post op a b r → r ≡ f a b) → left.new ≡ merged f left.old right.now }
+{
+    if left.len() != right.len() {
+        return false;
     }
+    for (i, word) in left.iter_mut().enumerate() {
+        *word = op(*word, right[i]);
+    }
+    true
 }
 
 // Adds the atoms of `right` to `left`, and says whether the two are of one length.
@@ -140,15 +130,7 @@ pub fn union_assign(left: &mut [u64], right: &[u64]) -> bool
     ensures equal { result ≡ eqb (length left.old) (length right.now) }
     ensures words { left.new ≡ merged bit_or left.old right.now }
 {
-    if left.len() != right.len() {
-        return false;
-    }
-    let mut i = 0;
-    while i < left.len() {
-        left[i] = left[i] | right[i];
-        i += 1;
-    }
-    true
+    merge(left, right, |a, b| a | b)
 }
 
 // Replaces `left` by the atoms that are in just one of the two, and says whether they are of one length.
@@ -156,95 +138,79 @@ pub fn xor_assign(left: &mut [u64], right: &[u64]) -> bool
     ensures equal { result ≡ eqb (length left.old) (length right.now) }
     ensures words { left.new ≡ merged bit_xor left.old right.now }
 {
-    if left.len() != right.len() {
-        return false;
+    merge(left, right, |a, b| a ^ b)
+}
+
+// Whether two sets are of one length, as the calls below need it.
+fn alike(left: &[u64], right: &[u64]) -> Result<(), Unfit>
+    ensures { MatchResult result (λ _. length left.now ≡ length right.now) (λ e. (e ≡ Unequal) × (length left.now ≢ length right.now)) }
+{
+    if left.len() == right.len() {
+        Ok(())
+    } else {
+        Err(Unfit::Unequal)
     }
-    let mut i = 0;
-    while i < left.len() {
-        left[i] = left[i] ^ right[i];
-        i += 1;
-    }
-    true
 }
 
 // Whether every atom of `left` is in `right`.
-pub fn is_subset_of(left: &[u64], right: &[u64]) -> Verdict
+#[tactic(auto, unfolding(crate::specs::Calls::subset_of))]
+pub fn is_subset_of(left: &[u64], right: &[u64]) -> Result<bool, Unfit>
     ensures { result ≡ subset_of left.now right.now }
 {
-    if left.len() != right.len() {
-        return Verdict::Unequal;
-    }
-    let mut i = 0;
-    while i < left.len() {
-        let word = left[i];
-        if word & right[i] != word {
-            return Verdict::No;
-        }
-        i += 1;
-    }
-    Verdict::Yes
+    alike(left, right)?;
+    Ok(left.iter().zip(right).all(|(x, y)| *x & *y == *x))
 }
 
 // Whether an odd number of atoms is in both.
-pub fn intersection_parity(left: &[u64], right: &[u64]) -> Verdict
+#[tactic(auto, unfolding(crate::specs::Calls::parity_of))]
+pub fn intersection_parity(left: &[u64], right: &[u64]) -> Result<bool, Unfit>
     ensures { result ≡ parity_of left.now right.now }
 {
-    if left.len() != right.len() {
-        return Verdict::Unequal;
-    }
-    let mut sum: u64 = 0;
-    let mut i = 0;
-    while i < left.len() {
-        sum = sum ^ (left[i] & right[i]);
-        i += 1;
-    }
-    if u64::count_ones(sum) % 2 == 1 {
-        Verdict::Yes
-    } else {
-        Verdict::No
-    }
+    alike(left, right)?;
+    let sum = left
+        .iter()
+        .zip(right)
+        .fold(0u64, |sum, (x, y)| sum ^ (*x & *y));
+    Ok(sum.count_ones() % 2 == 1)
 }
 
 // How many atoms are in both.
-pub fn intersection_count(left: &[u64], right: &[u64]) -> Counted
+#[tactic(auto, unfolding(crate::specs::Calls::intersection_of))]
+pub fn intersection_count(left: &[u64], right: &[u64]) -> Result<usize, Unfit>
     ensures { result ≡ intersection_of left.now right.now }
 {
-    if left.len() != right.len() {
-        return Counted::Unequal;
-    }
+    alike(left, right)?;
     if left.len() >= TOO_WIDE {
-        return Counted::TooWide;
+        return Err(Unfit::TooWide);
     }
-    let mut n: usize = 0;
-    let mut i = 0;
-    while i < left.len() {
-        n = n + u64::count_ones(left[i] & right[i]) as usize;
-        i += 1;
-    }
-    Counted::Are(n)
+    Ok(
+        left.iter()
+            .zip(right)
+            .map(|(x, y)| (*x & *y).count_ones() as usize)
+            .sum(),
+    )
 }
 
 // How many atoms the set has.
-pub fn count(words: &[u64]) -> Counted
+#[tactic(auto, unfolding(crate::specs::Calls::intersection_of, crate::specs::Calls::count_of))]
+pub fn count(words: &[u64]) -> Result<usize, Unfit>
     ensures { result ≡ count_of words.now }
 {
     intersection_count(words, words)
 }
 
-// The lowest atom of the set; words above it are not read.
-pub fn first(words: &[u64]) -> Found
+// The lowest atom of the set, if it has one; words above it are not read.
+#[tactic(auto, unfolding(crate::specs::Calls::first_of))]
+pub fn first(words: &[u64]) -> Result<Option<usize>, Unfit>
     ensures { result ≡ first_of words.now }
 {
     if words.len() >= TOO_WIDE {
-        return Found::TooWide;
+        return Err(Unfit::TooWide);
     }
-    let mut i = 0;
-    while i < words.len() {
-        let word = words[i];
-        if word != 0 {
-            return Found::At(i * 64 + u64::trailing_zeros(word) as usize);
+    for (i, word) in words.iter().enumerate() {
+        if *word != 0 {
+            return Ok(Some(i * 64 + word.trailing_zeros() as usize));
         }
-        i += 1;
     }
-    Found::Nothing
+    Ok(None)
 }

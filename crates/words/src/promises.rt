@@ -1,6 +1,6 @@
 // The theorems behind the calls of `words`, each held by the gate as the contract of a function with an empty body.
 // Document 01: the calls "have these plain set meanings"; specs/Promises.antt has the statements.
-ghost use Rattle.words.specs.Promises.{AtomIsBit, SameAtoms, InsertAdds, MergeJoins, IntersectionShares, SubsetHolds, OnesCount, FirstIsLowest, StepVisits};
+ghost use Rattle.words.specs.Promises.{AtomIsBit, SameAtoms, InsertAdds, MergeJoins, IntersectionShares, SubsetHolds, OnesCount, FirstIsLowest, StepVisits, BitsRise};
 
 // "Atom a is bit a mod 64 of word a div 64."
 pub fn atom_is_bit()
@@ -39,4 +39,9 @@ pub fn first_is_lowest()
 
 pub fn step_visits()
     ensures { StepVisits }
+{}
+
+// A visit gives the word's atoms, rising.
+pub fn bits_rise()
+    ensures { BitsRise }
 {}

@@ -1,6 +1,6 @@
 -- `snapshot::select` meets its contract.
 use Prim.Native.Nat.{ℕ, ◌%◌, ◌^◌}
-use mathlib.Core.Path.{◌≡◌, ap, ap₂, ◌∙◌}
+use mathlib.Core.Path.{◌≡◌, ap, ◌∙◌}
 use mathlib.Core.List.{List}
 use mathlib.Core.Bool.{◌||◌}
 use borrow.Author.Tests.{not-true, not-false}
@@ -45,9 +45,6 @@ slice-aggregate-xor-assign-2 c = search rules
 xor-assign-requires-2 : tie.Need-xor_assign-requires-2
 xor-assign-requires-2 c κs = search rules
 
-least-requires : tie.Need-least-n-requires
-least-requires c κs = search rules
-
 slice-aggregate-join-columns : tie.Need-slice_bounds-join_columns-end
 slice-aggregate-join-columns c = search rules
 
@@ -68,8 +65,7 @@ unfolding ordinals_of
 returns-2 c =
     let joined = c in
     let wide = joined in
-    let few = wide in
-    let new = few in
+    let new = wide in
     let half = new in
     let both = half in
     let old = both in
@@ -87,7 +83,7 @@ returns-2 c =
     (c.keep_below-2.ensures ∙ ap (λ (n : ℕ). unpack 64 n (set_of rows % 2 ^ a.rank)) joined.join_columns.auto.rows
     ∙ new_chosen a.region a.known held cut old-held old-cut a.rank a.index.now rows x (not-false a.known.initialized old.if-not-known.false-raw) atoms
     (λ j h. joined.join_columns.ensures j h
-    ∙ ap₂ (λ (w n : ℕ). has (set_of (replicate 8 0)) j || marks (has x) w a.index.now j n) wide.column_width.ensures few.least-n.ensures))
+    ∙ ap (λ (w : ℕ). has (set_of (replicate 8 0)) j || marks (has x) w a.index.now j a.region.atoms) wide.column_width.ensures))
 
 pub select_spec : {M : Type 1} → statement M
 select_spec =
@@ -102,7 +98,6 @@ select_spec =
     xor-assign-requires
     slice-aggregate-xor-assign-2
     xor-assign-requires-2
-    least-requires
     slice-aggregate-join-columns
     column-width-requires
     join-columns-requires

@@ -12,17 +12,17 @@ use Rattle.echelon.specs.Forward.{forward, eliminated}
 use Rattle.echelon.specs.Eliminate.{rows_to, words_of, constants_of}
 use Rattle.index.specs.Index.{index_of, incidences_of}
 use Rattle.index.specs.Column.{over_rank}
-use Rattle.parity.specs.Prepare.{prepare_unfit, prepare_of}
+use Rattle.parity.specs.Prepare.{prepare_check, prepared, prepare_of}
 use Rattle.region.specs.Masks.{decisions_of, region_of}
-use Rattle.region.specs.Calls.{decide_unfit, undecided_of, hold_of}
+use Rattle.region.specs.Calls.{decide_check, undecided_of, hold_of}
 use Rattle.snapshot.specs.Touch.{marks, listed, touched_of}
 use Rattle.inspect.specs.Consequences.{reading_of, consequences}
 use Rattle.inspect.specs.Batch.{applied}
-use Rattle.inspect.specs.Inspect.{inspect_unfit, inspect_of}
+use Rattle.inspect.specs.Inspect.{inspect_check, inspect_of}
 use Rattle.probe.specs.Elimination.{reduced_by, kept_from}
-use Rattle.probe.specs.Probe.{probe_unfit, probe_of}
+use Rattle.probe.specs.Probe.{probe_check, probe_of}
 use Rattle.settled.proofs.table.settled.Goals as goal
 
 pub returns : goal.returns
-unfolding xor zip_with packed row_at atoms_of mask_of unpack allowed_from allowed enter pivots_from hull_from hull_of strays forward eliminated rows_to words_of constants_of index_of incidences_of prepare_unfit prepare_of part_of over_rank decisions_of region_of decide_unfit undecided_of hold_of marks listed touched_of reading_of consequences applied misnames inspect_unfit inspect_of reduced_by kept_from probe_unfit probe_of
+unfolding xor zip_with packed row_at atoms_of mask_of unpack allowed_from allowed enter pivots_from hull_from hull_of strays forward eliminated rows_to words_of constants_of index_of incidences_of prepare_check prepared prepare_of part_of over_rank decisions_of region_of decide_check undecided_of hold_of marks listed touched_of reading_of consequences applied misnames inspect_check inspect_of reduced_by kept_from probe_check probe_of
 returns c = refl

@@ -1,0 +1,24 @@
+-- `single`: eight words can be counted.
+use mathlib.Core.Path.{◌≡◌, refl, sym, ◌∙◌}
+use Rattle.std.specs.Prelude.{Ok}
+use Rattle.words.specs.Set.{set_of}
+use Rattle.parity.specs.Single.{single_of}
+use Rattle.parity.proofs.Single.{counted_few, single_none, single_first}
+use Rattle.parity.proofs.units.single.Goals as goal
+
+pub unwrap-requires : goal.unwrap-requires
+unwrap-requires c = rw (c.count.ensures, counted_few c.args.words.now c.requires) refl
+
+pub returns-then-unwrap-ne1 : goal.returns-then-unwrap-ne1
+returns-then-unwrap-ne1 c = single_none c.args.words.now c.requires c.unwrap.result (sym c.count.ensures ∙ c.unwrap.ensures) c.if-unwrap-ne1.true
+
+pub unwrap-requires-2 : goal.unwrap-requires-2
+unwrap-requires-2 c =
+    rw (c.first.ensures, single_first c.args.words.now c.requires c.unwrap.result (sym c.count.ensures ∙ c.unwrap.ensures) c.if-unwrap-ne1.false) refl
+
+pub returns : goal.returns
+returns c =
+    let ws = c.args.words.now in
+    let same : Ok c.unwrap-2.result ≡ Ok (single_of (set_of ws)) =
+    sym c.unwrap-2.ensures ∙ c.first.ensures ∙ single_first ws c.requires c.unwrap.result (sym c.count.ensures ∙ c.unwrap.ensures) c.if-unwrap-ne1.false in
+    cc
