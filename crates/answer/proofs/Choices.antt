@@ -1,8 +1,6 @@
 -- What holds of either of two answers holds of the one that is chosen.
-use Prim.Native.Nat.{ℕ}
 use mathlib.Core.Path.{◌≡◌, refl}
-use native.Mathlib.Omega.{arith}
-use mathlib.Core.Bool.{Bool, true, false, cond, ◌&&◌}
+use mathlib.Core.Bool.{Bool, true, false, cond}
 use Rattle.std.specs.Prelude.{Result, Ok, Err}
 use Rattle.refusal.specs.Refusal.{answered}
 use Rattle.refusal.specs.declared.Refusal.{Refusal}
@@ -16,7 +14,3 @@ pub of_answered : {A : Type 0} (P : Result A Refusal → Type 0) (check : Result
     → P (answered check x)
 of_answered P (Ok done) a b = a refl
 of_answered P (Err e) a b = b e
-
-pub both : (a b : Bool) → (a && b) ≡ true → (a ≡ true) × (b ≡ true)
-both true b e = (refl, e)
-both false b e = let z : ◌≡◌ {A = ℕ} 0 1 = cc in absurd (omega arith)

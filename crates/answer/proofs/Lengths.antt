@@ -8,6 +8,7 @@ use native.Mathlib.Omega.{arith}
 use borrow.Author.Tests.{leb-true, eqb-true}
 use lib.ListN.{length, length-append, replicate}
 use lib.Dec.{eqb, leb}
+use Rattle.std.proofs.lemmas.Bool.{and_parts}
 use Rattle.refusal.specs.declared.Refusal.{Refusal}
 use Rattle.fit.specs.Rows.{limit}
 use Rattle.parity.specs.declared.System.{System}
@@ -44,7 +45,7 @@ use Rattle.lines.specs.Words.{bytes, space, newline, answer_word, step_word, pro
 use Rattle.lines.specs.Lines.{probe_line, decide_line, inspect_line, call_line, decision_at, inspection, calls_at, line_at, lines_from}
 use Rattle.lines.proofs.Onwards.{lines_more, lines_end}
 use Rattle.answer.specs.Text.{refused_line, sound_word, system_line}
-use Rattle.answer.proofs.Choices.{chosen, of_answered, both}
+use Rattle.answer.proofs.Choices.{chosen, of_answered}
 use Rattle.answer.proofs.Digits.{one_digit, three_digits, five_digits, six_digits, two_long}
 use Rattle.answer.proofs.Small.{Counted, inspected_small, Sized, probed_small}
 use Rattle.answer.proofs.Systems.{Bounded}
@@ -127,8 +128,8 @@ module _ (file : List ℕ) (s : System) (f : Filled) where
   four_bytes : (o : ℕ) → length_check file o ≡ Ok tt → o + 4 ≤ next_at file o
   unfolding length_check
   four_bytes o e =
-      let t = both (leb (o + 2) (length file)) (leb 2 (length_at file o) && leb (end_at file o) (length file)) (holds _ Length o e) in
-      let u = both (leb 2 (length_at file o)) (leb (end_at file o) (length file)) t.1 in
+      let t = and_parts (leb (o + 2) (length file)) (leb 2 (length_at file o) && leb (end_at file o) (length file)) (holds _ Length o e) in
+      let u = and_parts (leb 2 (length_at file o)) (leb (end_at file o) (length file)) t.1 in
       omega (arith, leb-true 2 (length_at file o) u.0, leb-true (end_at file o) (length file) u.1)
 
   line_long : (st : State) (seen : Seen) (o : ℕ) {next : Seen} → seen.atoms ≤ limit → Passed file seen o next → length (line_at file s f st o) ≤ 32

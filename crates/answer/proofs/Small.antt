@@ -11,7 +11,7 @@ use lib.Dec.{ltb, eqb}
 use Rattle.rows.specs.Decisions.{Decisions, undecided}
 use Rattle.std.specs.Prelude.{Ok}
 use Rattle.fit.specs.Rows.{limit, overfull}
-use Rattle.fit.proofs.Among.{or_none}
+use Rattle.std.proofs.lemmas.Bool.{or_parts}
 use Rattle.fit.proofs.Fitting.{passed}
 use Rattle.parity.specs.Basis.{basis_of}
 use Rattle.parity.specs.declared.System.{System}
@@ -64,7 +64,7 @@ module _ (s : System) (l : Filled) (r : Region) (known : Snapshot) (atoms values
   rank_few fit =
       let ten = passed (overfull_by s r known) _ _ fit in
       let thirteen = passed (ltb (min s.rows s.atoms) s.rank) _ _ ten.1 in
-      let few = or_none (ltb limit s.atoms) (ltb limit s.rows) (or_none (overfull s.atoms s.rows) (ltb limit r.atoms || (known.initialized && ltb limit known.atoms)) ten.0).0 in
+      let few = or_parts (ltb limit s.atoms) (ltb limit s.rows) (or_parts (overfull s.atoms s.rows) (ltb limit r.atoms || (known.initialized && ltb limit known.atoms)) ten.0).0 in
       omega (arith, ltb-false limit s.atoms few.0, ltb-false (min s.rows s.atoms) s.rank thirteen.0)
 
   ended_few : s.rank ≤ 512 → Counted 512 (ended (applied (begun (decisions r)) (found s l r known).forced) (length (found s l r known).forced) r)
@@ -99,7 +99,7 @@ module _ (s : System) (ws cs ps : List ℕ) (r : Region) where
   unfolding probe_check
   open_small fit =
       let ten = passed (overfull s.atoms s.rows || ltb limit r.atoms) _ _ fit in
-      let few = or_none (overfull s.atoms s.rows) (ltb limit r.atoms) ten.0 in
+      let few = or_parts (overfull s.atoms s.rows) (ltb limit r.atoms) ten.0 in
       omega (arith, ltb-false limit r.atoms few.1, undecided_few (decisions r), decisions_length r)
 
   pub probed_small : probe_check s ws cs ps r ≡ Ok tt → Sized 512 (probed s ws cs ps r)

@@ -10,7 +10,7 @@ ghost use Rattle.answer.specs.Answer.{room_of, outcome, answer_of};
 use lines::Lent;
 use load::LoadError;
 use parity::Prepared;
-use records::Checked;
+use records::{Checked, FILE_LIMIT};
 use text::Text;
 
 pub mod promises;
@@ -23,7 +23,7 @@ pub struct NoRoom;
 pub fn room(bytes: usize) -> usize
     ensures { result ≡ room_of bytes }
 {
-    64 + bytes.min(65536) * 8
+    64 + bytes.min(FILE_LIMIT) * 8
 }
 
 // How the line of a system ends.
@@ -33,7 +33,7 @@ fn sound_word(refuted: bool) -> &'static [u8]
     if refuted { b" refuted\n" } else { b" sound\n" }
 }
 
-// "system": atoms, rows, rank, additions, units, incidences, sound or refuted.
+// "system": atoms, rows, rank, additions, units, incidences, sound or refuted. (By hand and not by `write!`, as `text` says.)
 fn put_system(text: &mut Text, prepared: Prepared)
     ensures { Puts text.old (system_line prepared) text.new }
 {

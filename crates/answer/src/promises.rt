@@ -4,6 +4,7 @@ ghost use Rattle.answer.specs.Promises.{TextFits};
 ghost use Rattle.answer.specs.Worked.{Worked};
 
 // The text of every file has the room that is asked.
+#[tactic(auto, using(crate::proofs::Fits::text_fits))]
 pub fn text_fits()
     ensures { TextFits }
 {}

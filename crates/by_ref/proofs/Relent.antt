@@ -14,7 +14,7 @@ use Rattle.refusal.specs.Refusal.{checked, answered, left}
 use Rattle.refusal.specs.declared.Refusal.{Refusal}
 use Rattle.refusal.specs.declared.Refusal.TheVariants.{Short, Overfull, Stray, Clash, Basis, Index, Unequal, Missing}
 use Rattle.fit.specs.Rows.{short, strays, misnames}
-use Rattle.fit.proofs.Among.{or_none}
+use Rattle.std.proofs.lemmas.Bool.{or_parts}
 use Rattle.index.specs.Index.{column_width}
 use Rattle.index.specs.Column.{over_rank}
 use Rattle.parity.specs.declared.System.{System}
@@ -69,7 +69,7 @@ module _ (s : System) (l : Filled) (r : Region) (known : Snapshot) where
       go true over e e' = refl
       go false true e e' = refl
       go false false e e' =
-          let atoms : s.atoms ≤ 512 = ltb-false 512 s.atoms (or_none _ _ (or_none _ _ e).0).0 in
+          let atoms : s.atoms ≤ 512 = ltb-false 512 s.atoms (or_parts _ _ (or_parts _ _ e).0).0 in
           let rank : s.rank ≤ min s.rows s.atoms = ltb-false _ _ e' in
           ap late (enough n s.rank (omega (arith, atoms, rank)))
 

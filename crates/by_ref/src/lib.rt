@@ -25,8 +25,8 @@ pub struct Forced {
     pub value: u8,
 }
 
-// An inspection without the knowledge: kind 0 unchanged, 1 changed, 2 refuted, or 3 refused with its number; how many atoms it held and
-// cut, how long the forced list is, and the region as it is then.
+// An inspection without the knowledge, as C has it, so with numbers for its kind and its refusal: kind 0 unchanged, 1 changed, 2 refuted, or 3
+// refused with its number; how many atoms it held and cut, how long the forced list is, and the region as it is then.
 #[repr(C)]
 #[derive(Clone, Copy)]
 pub struct Seen {
@@ -65,10 +65,9 @@ struct Listed {
 pub fn worzubil_publish_in(known: &mut Snapshot, region: Region) -> usize
     ensures { publication result known.new ≡ published_answer (publish_of known.old region) }
 {
-    match known.publish(region) {
-        Ok(()) => 0,
-        Err(refusal) => refusal.number(),
-    }
+    let published = ffi::inspects::worzubil_publish(*known, region);
+    *known = published.known;
+    published.number
 }
 
 // Inspects, with the knowledge in the very record that was passed.
@@ -134,7 +133,8 @@ fn gather(
     }
 }
 
-// Writes the first so many entries of a list.
+// Writes the first so many entries of a list. By place (tried: of a list that `iter_mut().zip(..)` went through a proof knows the length, and not
+// the entries).
 fn write(list: &mut [Forced], atoms: &[usize; 512], values: &[u8; 512], count: usize)
     requires { (count ≤ length list.old) × (count ≤ 512) }
     ensures { list.new ≡ written atoms.now values.now count list.old }

@@ -2,6 +2,7 @@
 ghost use Rattle.by_ref.specs.Promises.{EntriesSettle};
 
 // its atoms and its values settle a list of entries
+#[tactic(auto, using(crate::proofs::Lists::entries_settle))]
 pub fn entries_settle()
     ensures { EntriesSettle }
 {}

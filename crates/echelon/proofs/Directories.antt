@@ -15,7 +15,8 @@ use Rattle.rows.specs.Flat.{row_at}
 use Rattle.echelon.specs.Forward.{same_low, empty, find}
 use Rattle.echelon.specs.Eliminate.{rows_to}
 use Rattle.echelon.specs.Promises.{Lowest}
-use Rattle.echelon.specs.Steps.{Clean, Known, ListsPivots, IsNewPivot}
+use Rattle.echelon.specs.declared.directory.Pivot.{Pivot}
+use Rattle.echelon.specs.Steps.{Clean, Known, no_pivot, ListsPivots, IsNewPivot}
 use Rattle.echelon.proofs.Lows.{same_low_lem, other_low, none_low}
 
 module _ (n w t : ℕ) (ws cs : List ℕ) (r : Row) where
@@ -28,17 +29,16 @@ module _ (n w t : ℕ) (ws cs : List ℕ) (r : Row) where
   unfolding rows_to
   before e = ap (λ (b : Bool). cond b (some (row_at n w ws cs t)) (find r (rows_to n w ws cs t))) e
 
-pub get_d_zeros : (k a : ℕ) → ◌≡◌ {A = ℕ} (get_or (replicate k 0) a 0) 0
-get_d_zeros zero a = refl
-get_d_zeros (suc k) zero = refl
-get_d_zeros (suc k) (suc a) = get_d_zeros k a
+pub none_listed : (k a : ℕ) → (get_or (replicate k no_pivot) a no_pivot).head ≡ 0
+none_listed zero a = refl
+none_listed (suc k) zero = refl
+none_listed (suc k) (suc a) = none_listed k a
 
-pub directory_start : (n w : ℕ) (ws cs heads sources : List ℕ) → ((a : ℕ) → get_or heads a 0 ≡ 0) → w * 64 ≤ length heads → w * 64 ≤ length sources
-    → ListsPivots n w 0 ws cs heads sources
+pub directory_start : (n w : ℕ) (ws cs : List ℕ) (pivots : List Pivot) → ((a : ℕ) → (get_or pivots a no_pivot).head ≡ 0) → w * 64 ≤ length pivots
+    → ListsPivots n w 0 ws cs pivots
 unfolding rows_to
-directory_start n w ws cs heads sources zeros l l' = record {
-  heads_wide = l;
-  sources_wide = l';
+directory_start n w ws cs pivots zeros l = record {
+  wide = l;
   clean = λ r h. let z : ⊥ = omega arith in absurd z;
   known = λ a h. record {
     none_yet = λ e r low. refl;
@@ -49,10 +49,10 @@ directory_start n w ws cs heads sources zeros l l' = record {
   };
 }
   where
-    none : (a : ℕ) → 0 < get_or heads a 0 → ⊥
+    none : (a : ℕ) → 0 < (get_or pivots a no_pivot).head → ⊥
     none a p = omega (arith, zeros a)
 
-module _ (n w t : ℕ) (ws cs heads sources : List ℕ) (dir : ListsPivots n w t ws cs heads sources) (clean : Clean n w t ws cs) where
+module _ (n w t : ℕ) (ws cs : List ℕ) (pivots : List Pivot) (dir : ListsPivots n w t ws cs pivots) (clean : Clean n w t ws cs) where
   pub clean_all : (r : ℕ) → r < suc t → Clean n w r ws cs
   clean_all r h = go (eqb r t) refl
     where
@@ -71,32 +71,31 @@ module _ (n w t : ℕ) (ws cs heads sources : List ℕ) (dir : ListsPivots n w t
     found = λ p r low. before n w t ws cs r (other r low) ∙ known.found p r low;
   }
 
-  pub directory_empty : empty (row_at n w ws cs t).atoms ≡ true → ListsPivots n w (suc t) ws cs heads sources
+  pub directory_empty : empty (row_at n w ws cs t).atoms ≡ true → ListsPivots n w (suc t) ws cs pivots
   directory_empty e = record {
-    heads_wide = dir.heads_wide;
-    sources_wide = dir.sources_wide;
+    wide = dir.wide;
     clean = clean_all;
-    known = λ a h. known_on (get_or heads a 0) (get_or sources a 0) a (dir.known a h) (λ r low. none_low r.atoms (row_at n w ws cs t).atoms e);
+    known = λ a h. known_on (get_or pivots a no_pivot).head (get_or pivots a no_pivot).source.0 a (dir.known a h) (λ r low. none_low r.atoms (row_at n w ws cs t).atoms e);
   }
 
   module _ (wide : n ≤ w * 64) (head lowest : ℕ) (pivot : IsNewPivot n w t ws cs head lowest) where
-    heads' : List ℕ
-    heads' = set heads lowest head
+    entered : Pivot
+    entered = record { head = head; source = record { 0 = t } }
 
-    sources' : List ℕ
-    sources' = set sources lowest t
+    pivots' : List Pivot
+    pivots' = set pivots lowest entered
 
-    head_here : get_or heads' lowest 0 ≡ head
-    unfolding heads'
-    head_here = get_or-set_same heads lowest head 0 (omega (arith, dir.heads_wide, pivot.atom))
+    knows : ℕ → Pivot → Type 0
+    knows a p = Known n w (suc t) ws cs p.head p.source.0 a
 
-    source_here : get_or sources' lowest 0 ≡ t
-    unfolding sources'
-    source_here = get_or-set_same sources lowest t 0 (omega (arith, dir.sources_wide, pivot.atom))
+    here_is : get_or pivots' lowest no_pivot ≡ entered
+    unfolding pivots'
+    here_is = get_or-set_same pivots lowest entered no_pivot (omega (arith, dir.wide, pivot.atom))
 
-    known_new : Known n w (suc t) ws cs (get_or heads' lowest 0) (get_or sources' lowest 0) lowest
+    known_new : knows lowest (get_or pivots' lowest no_pivot)
+    unfolding knows entered
     known_new =
-        rw (head_here, source_here)
+        rw here_is
         (record {
           none_yet = λ e. let z : ⊥ = omega (arith, pivot.some) in absurd z;
           earlier = λ p. omega arith;
@@ -105,24 +104,23 @@ module _ (n w t : ℕ) (ws cs heads sources : List ℕ) (dir : ListsPivots n w t
           found = λ p r low. here n w t ws cs r (same_low_lem r (row_at n w ws cs t) lowest low pivot.is);
         })
 
-    known_old : (a : ℕ) → a < n → (a ≡ lowest → ⊥) → Known n w (suc t) ws cs (get_or heads' a 0) (get_or sources' a 0) a
-    unfolding heads' sources'
+    known_old : (a : ℕ) → a < n → (a ≡ lowest → ⊥) → knows a (get_or pivots' a no_pivot)
+    unfolding pivots' knows
     known_old a h ne =
-        rw (get_or-set_other heads lowest a head 0 ne, get_or-set_other sources lowest a t 0 ne)
-        (known_on (get_or heads a 0) (get_or sources a 0) a (dir.known a h) (λ r low. other_low r (row_at n w ws cs t) a lowest low pivot.is ne))
+        rw (get_or-set_other pivots lowest a entered no_pivot ne)
+        (known_on (get_or pivots a no_pivot).head (get_or pivots a no_pivot).source.0 a (dir.known a h) (λ r low. other_low r (row_at n w ws cs t) a lowest low pivot.is ne))
 
-    known_all : (a : ℕ) → a < n → Known n w (suc t) ws cs (get_or heads' a 0) (get_or sources' a 0) a
+    known_all : (a : ℕ) → a < n → knows a (get_or pivots' a no_pivot)
     known_all a h = go (eqb a lowest) refl
       where
-        go : (b : Bool) → eqb a lowest ≡ b → Known n w (suc t) ws cs (get_or heads' a 0) (get_or sources' a 0) a
+        go : (b : Bool) → eqb a lowest ≡ b → knows a (get_or pivots' a no_pivot)
         go true e = rw (eqb-true a lowest e) known_new
         go false e = known_old a h (eqb-false a lowest e)
 
-    pub directory_pivot : ListsPivots n w (suc t) ws cs (set heads lowest head) (set sources lowest t)
-    unfolding heads' sources'
+    pub directory_pivot : ListsPivots n w (suc t) ws cs (set pivots lowest (record { head = head; source = record { 0 = t } }))
+    unfolding pivots' knows entered
     directory_pivot = record {
-      heads_wide = simp length-set dir.heads_wide;
-      sources_wide = simp length-set dir.sources_wide;
+      wide = simp length-set dir.wide;
       clean = clean_all;
       known = known_all;
     }

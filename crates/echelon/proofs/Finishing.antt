@@ -1,4 +1,4 @@
--- The turns of `first_word` and `reduce_from`: one word after another, until a word has an atom without a pivot or the row is empty.
+-- The turns of `reduce`: one word after another, until a word has an atom without a pivot or the row is empty.
 use Prim.Native.Nat.{ℕ, ◌+◌, ◌*◌, ◌/◌, ◌%◌, ◌^◌, ◌≤◌, ◌<◌}
 use mathlib.Core.Path.{◌≡◌, refl, sym, ap, ◌∙◌}
 use mathlib.Core.List.{List, [], ◌∷◌, ◌++◌}
@@ -22,7 +22,8 @@ use Rattle.echelon.specs.Forward.{empty, find, reduced}
 use Rattle.echelon.specs.Eliminate.{rows_to}
 use Rattle.echelon.specs.Promises.{Lowest}
 use Rattle.echelon.specs.declared.directory.NewPivot.{NewPivot}
-use Rattle.echelon.specs.Steps.{Clean, OnlyRow, EmptyTo, ListsPivots, head_of, Reduced, Finished}
+use Rattle.echelon.specs.declared.directory.Pivot.{Pivot}
+use Rattle.echelon.specs.Steps.{Clean, OnlyRow, EmptyTo, no_pivot, ListsPivots, head_of, Reduced, Finished}
 use Rattle.echelon.proofs.Lows.{find_none, empty_none}
 use Rattle.echelon.proofs.Replaced.{row_at_length, row_kept, at_kept, clean_kept, rows_kept, only_start, only_join}
 use Rattle.echelon.proofs.Onwards.{onward_start, onward_join, onward_few, onward_end}
@@ -31,25 +32,24 @@ use Rattle.echelon.proofs.Looks.{atom_below, atom_lowest, atom_word, head_at}
 
 -- ---- the directory speaks of the rows before row t alone
 
-module _ (n w t : ℕ) (ws cs ws' cs' heads sources : List ℕ) (only : OnlyRow w t ws cs ws' cs') where
+module _ (n w t : ℕ) (ws cs ws' cs' : List ℕ) (pivots : List Pivot) (only : OnlyRow w t ws cs ws' cs') where
   rows_same : rows_to n w ws' cs' t ≡ rows_to n w ws cs t
   rows_same = rows_kept n w t t ws cs ws' cs' (omega arith) only
 
-  pub directory_kept : ListsPivots n w t ws cs heads sources → ListsPivots n w t ws' cs' heads sources
+  pub directory_kept : ListsPivots n w t ws cs pivots → ListsPivots n w t ws' cs' pivots
   directory_kept dir = record {
-    heads_wide = dir.heads_wide;
-    sources_wide = dir.sources_wide;
+    wide = dir.wide;
     clean = λ r h. clean_kept w t r h n ws cs ws' cs' only (dir.clean r h);
     known = λ a h.
         let known = dir.known a h in
         record {
           none_yet = λ e r l. ap (find r) rows_same ∙ known.none_yet e r l;
           earlier = known.earlier;
-          head = λ p. known.head p ∙ ap (λ (r : List ℕ). get_or r (a / 64) 0) (sym (row_kept w t (get_or sources a 0) (known.earlier p) n ws cs ws' cs' only));
-          below = λ p. ap (λ (r : List ℕ). set_of (take (a / 64) r)) (row_kept w t (get_or sources a 0) (known.earlier p) n ws cs ws' cs' only) ∙ known.below p;
+          head = λ p. known.head p ∙ ap (λ (r : List ℕ). get_or r (a / 64) 0) (sym (row_kept w t (get_or pivots a no_pivot).source.0 (known.earlier p) n ws cs ws' cs' only));
+          below = λ p. ap (λ (r : List ℕ). set_of (take (a / 64) r)) (row_kept w t (get_or pivots a no_pivot).source.0 (known.earlier p) n ws cs ws' cs' only) ∙ known.below p;
           found = λ p r l.
               ap (find r) rows_same ∙ known.found p r l
-              ∙ ap some (sym (at_kept w t (get_or sources a 0) (known.earlier p) n ws cs ws' cs' only));
+              ∙ ap some (sym (at_kept w t (get_or pivots a no_pivot).source.0 (known.earlier p) n ws cs ws' cs' only));
         };
   }
 
@@ -132,8 +132,8 @@ module _ (n w t : ℕ) (ws cs : List ℕ) where
       }
 
     -- word i has an atom, and its lowest one no pivot
-    module _ (heads sources : List ℕ) (dir : ListsPivots n w t ws cs heads sources) (inside : i < w) (word : ℕ) (is : word ≡ get_or (row w ws' t) i 0)
-        (fits : word < 2 ^ 64) (some_atom : 0 < word) (none_yet : head_of heads i word ≡ 0) where
+    module _ (pivots : List Pivot) (dir : ListsPivots n w t ws cs pivots) (inside : i < w) (word : ℕ) (is : word ≡ get_or (row w ws' t) i 0)
+        (fits : word < 2 ^ 64) (some_atom : 0 < word) (none_yet : head_of pivots i word ≡ 0) where
       a : ℕ
       a = i * 64 + count_trailing_zeros 64 word
 
@@ -152,7 +152,7 @@ module _ (n w t : ℕ) (ws cs : List ℕ) where
       finished_pivot p head_is lowest_is =
           let below = atom_below n i word (row w ws' t) some_atom fits small in
           let place = atom_word n i word (row w ws' t) some_atom fits small in
-          let none_here : get_or heads a 0 ≡ 0 = sym (head_at heads i word some_atom) ∙ none_yet in
+          let none_here : (get_or pivots a no_pivot).head ≡ 0 = sym (head_at pivots i word some_atom) ∙ none_yet in
           record {
             only = so.only;
             clean = so.clean;

@@ -23,7 +23,7 @@ use Rattle.echelon.specs.Forward.{find}
 use Rattle.echelon.specs.Eliminate.{rows_to}
 use Rattle.echelon.specs.Promises.{Lowest}
 use Rattle.echelon.specs.declared.directory.Pivot.{Pivot}
-use Rattle.echelon.specs.Steps.{added_from, Clean, EmptyTo, ListsPivots, IsPivotOf, head_of, rest}
+use Rattle.echelon.specs.Steps.{added_from, Clean, EmptyTo, no_pivot, ListsPivots, IsPivotOf, head_of, rest}
 use Rattle.echelon.proofs.Replaced.{row_at_length, row_kept, at_kept, clean_kept}
 use Rattle.echelon.proofs.Onwards.{onward_few}
 use Rattle.echelon.proofs.Turns.{from, worked, Turn, turn_next, turn_falls}
@@ -58,14 +58,14 @@ module _ (n i word : ℕ) (l : List ℕ) (some_atom : 0 < word) (word_fits : wor
   pub atom_word : (i * 64 + count_trailing_zeros 64 word) / 64 ≡ i
   atom_word = omega (arith, (trailing_form 64 word some_atom word_fits).below)
 
-pub head_some : (heads : List ℕ) (i word : ℕ) → 0 < head_of heads i word → 0 < word
+pub head_some : (pivots : List Pivot) (i word : ℕ) → 0 < head_of pivots i word → 0 < word
 unfolding head_of
-head_some heads i zero h = let z : ⊥ = omega arith in absurd z
-head_some heads i (suc word) h = omega arith
+head_some pivots i zero h = let z : ⊥ = omega arith in absurd z
+head_some pivots i (suc word) h = omega arith
 
-pub head_at : (heads : List ℕ) (i word : ℕ) → 0 < word → head_of heads i word ≡ get_or heads (i * 64 + count_trailing_zeros 64 word) 0
+pub head_at : (pivots : List Pivot) (i word : ℕ) → 0 < word → head_of pivots i word ≡ (get_or pivots (i * 64 + count_trailing_zeros 64 word) no_pivot).head
 unfolding head_of
-head_at heads i word h = ap (λ (e : Bool). cond e 0 (get_or heads (i * 64 + count_trailing_zeros 64 word) 0)) (ne_eqb word 0 (λ e. omega arith))
+head_at pivots i word h = ap (λ (e : Bool). cond e 0 (get_or pivots (i * 64 + count_trailing_zeros 64 word) no_pivot).head) (ne_eqb word 0 (λ e. omega arith))
 
 -- the pivot that is found, as `turn_next` asks for it
 pub record Found (n w t i : ℕ) (ws cs ws' cs' : List ℕ) (word head s : ℕ) : Type 0 where
@@ -75,24 +75,24 @@ pub record Found (n w t i : ℕ) (ws cs ws' cs' : List ℕ) (word head s : ℕ) 
   pub is : head ≡ get_or (row w ws' s) i 0
   pub found : find (worked n w t ws' cs' i word) (rows_to n w ws cs t) ≡ some (row_at n w ws' cs' s)
 
-module _ (n w t i : ℕ) (ws cs ws' cs' heads sources : List ℕ) (word head k : ℕ) (dir : ListsPivots n w t ws cs heads sources)
-    (turn : Turn n w t i ws cs ws' cs' word k) (word_fits : word < 2 ^ 64) (is : head ≡ head_of heads i word) (some-head : 0 < head) where
+module _ (n w t i : ℕ) (ws cs ws' cs' : List ℕ) (pivots : List Pivot) (word head k : ℕ) (dir : ListsPivots n w t ws cs pivots)
+    (turn : Turn n w t i ws cs ws' cs' word k) (word_fits : word < 2 ^ 64) (is : head ≡ head_of pivots i word) (some-head : 0 < head) where
   some_word : 0 < word
-  some_word = head_some heads i word (rw is at some-head)
+  some_word = head_some pivots i word (rw is at some-head)
 
   a : ℕ
   a = i * 64 + count_trailing_zeros 64 word
 
   s : ℕ
-  s = get_or sources a 0
+  s = (get_or pivots a no_pivot).source.0
 
-  pub look_found : Found n w t i ws cs ws' cs' word head (get_or sources (i * 64 + count_trailing_zeros 64 word) 0)
+  pub look_found : Found n w t i ws cs ws' cs' word head (get_or pivots (i * 64 + count_trailing_zeros 64 word) no_pivot).source.0
   unfolding a s
   look_found =
       let l = row w ws' t in
       let known = dir.known a (atom_below n i word l some_word word_fits turn.fits) in
-      let here : head ≡ get_or heads a 0 = is ∙ head_at heads i word some_word in
-      let some-here : 0 < get_or heads a 0 = rw here at some-head in
+      let here : head ≡ (get_or pivots a no_pivot).head = is ∙ head_at pivots i word some_word in
+      let some-here : 0 < (get_or pivots a no_pivot).head = rw here at some-head in
       let word-is = atom_word n i word l some_word word_fits turn.fits in
       let early = known.earlier some-here in
       let same = row_kept w t s early n ws cs ws' cs' turn.only in
@@ -115,10 +115,10 @@ pub record Made (n w t i : ℕ) (ws cs ws' cs' : List ℕ) (word k : ℕ) (p : P
   pub falls : rest (worked n w t (added_from (i + 1) w ws' t p.source.0) (set cs' t (bit_xor (get_or cs' t 0) (get_or cs' p.source.0 0))) i (bit_xor word p.head)).atoms
       < rest (worked n w t ws' cs' i word).atoms
 
-pub turn_made : {n w t i : ℕ} {ws cs ws' cs' heads sources : List ℕ} {word k : ℕ} {p : Pivot} → Turn n w t i ws cs ws' cs' word k → IsPivotOf heads sources i word p
-    → Clean n w t ws cs → ListsPivots n w t ws cs heads sources → i < w → word < 2 ^ 64 → p.head < 2 ^ 64 → Made n w t i ws cs ws' cs' word k p
-turn_made {n} {w} {t} {i} {ws} {cs} {ws'} {cs'} {heads} {sources} {word} {k} {p} turn is clean dir inside word_fits head_fits =
-    let f = rw (sym is.source) at (look_found n w t i ws cs ws' cs' heads sources word p.head k dir turn word_fits is.head is.some) in
+pub turn_made : {n w t i : ℕ} {ws cs ws' cs' : List ℕ} {pivots : List Pivot} {word k : ℕ} {p : Pivot} → Turn n w t i ws cs ws' cs' word k → IsPivotOf pivots i word p
+    → Clean n w t ws cs → ListsPivots n w t ws cs pivots → i < w → word < 2 ^ 64 → p.head < 2 ^ 64 → Made n w t i ws cs ws' cs' word k p
+turn_made {n} {w} {t} {i} {ws} {cs} {ws'} {cs'} {pivots} {word} {k} {p} turn is clean dir inside word_fits head_fits =
+    let f = rw (sym is.source) at (look_found n w t i ws cs ws' cs' pivots word p.head k dir turn word_fits is.head is.some) in
     let room : t * w + w ≤ length ws' = omega (arith, turn.only.words, clean.words) in
     let room' : t < length cs' = omega (arith, turn.only.constants, clean.constants) in
     let next = turn_next n w t i ws cs ws' cs' word k inside room word_fits turn p.source.0 p.head room' f.clean f.below f.is head_fits f.found in

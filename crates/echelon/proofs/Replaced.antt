@@ -1,11 +1,11 @@
 -- One row's words replaced in flat words, and what is then as it was.
 use Prim.Native.Nat.{ℕ, zero, suc, ◌+◌, ◌-◌, ◌*◌, ◌≤◌, ◌<◌}
 use mathlib.Core.Path.{◌≡◌, refl, sym, ap, ap₂, ◌∙◌}
-use mathlib.Core.List.{List, [], ◌∷◌, ◌++◌, zip_with, append_assoc}
+use mathlib.Core.List.{List, [], ◌∷◌, ◌++◌, zip_with}
 use native.Mathlib.Nat.{sub-zero, suc-sub-suc, zero-sub}
 use native.Mathlib.Omega.{arith}
 use lib.ListN.{length, get_or, take, drop, set, length-append, length-drop, length-set, take-append-drop}
-use lib.Seq.{length-take-le, take-nil, take_at, drop_at, take-take, drop-drop, take-add, get_or-take, take-set-le, drop-set-lt, take-set-lt, drop-set-add}
+use lib.Seq.{length-take-le, take-nil, take_at, drop_at, take-take, drop-drop, get_or-take, take-set-le, drop-set-lt, take-set-lt, drop-set-add}
 use lib.Bits.{bit_xor}
 use Rattle.rows.specs.Flat.{row, row_at}
 use Rattle.rows.proofs.Adding.{earlier}
@@ -111,16 +111,12 @@ module _ (w t : ℕ) (ws : List ℕ) (fits : t * w + w ≤ length ws) where
       (drop-set-add (t * w) ws i v ∙ sym (take-append-drop w (set mid i v))
       ∙ ap₂ ◌++◌ (take-set-lt w mid i v h) (drop-set-lt w mid i v h ∙ drop-drop w (t * w) ws))
 
-  -- the words from word i on added
-  pub added_put : (s i : ℕ) → i ≤ w
-      → take (t * w + i) ws ++ (zip_with bit_xor (take (w - i) (drop (t * w + i) ws)) (take (w - i) (drop (s * w + i) ws)) ++ drop (t * w + w) ws)
-      ≡ added_from i w ws t s
-  unfolding put
-  added_put s i h =
-      let later : (r : ℕ) → take (w - i) (drop (r * w + i) ws) ≡ drop i (row w ws r) =
-      λ r. ap (take (w - i)) (sym (drop-drop i (r * w) ws)) ∙ sym (drop_take i w (drop (r * w) ws)) in
-      ap₂ (λ (a b : List ℕ). a ++ (b ++ drop (t * w + w) ws))
-      (take-add (t * w) i ws ∙ ap (λ (l : List ℕ). take (t * w) ws ++ l) (sym (take-take i w (drop (t * w) ws) h)))
-      (ap₂ (zip_with bit_xor) (later t) (later s))
-      ∙ append_assoc (take (t * w) ws) (take i (row w ws t)) _
-      ∙ ap (λ (l : List ℕ). take (t * w) ws ++ l) (sym (append_assoc (take i (row w ws t)) (zip_with bit_xor (drop i (row w ws t)) (drop i (row w ws s))) (drop (t * w + w) ws)))
+  -- no word is left to be added
+  pub added_none : (s : ℕ) → ws ≡ added_from w w ws t s
+  unfolding zip_with
+  added_none s =
+      let r = row w ws t in
+      let rest = drop w (row w ws s) in
+      let none : drop w r ≡ [] = drop_take w w (drop (t * w) ws) ∙ ap (λ n. take n (drop w (drop (t * w) ws))) (let z : w - w ≡ 0 = omega arith in z) in
+      parts
+      ∙ ap (put w t ws) (sym (ap (λ l. take w r ++ zip_with bit_xor l rest) none ∙ ap (λ l. take w r ++ l) (sym none) ∙ take-append-drop w r))

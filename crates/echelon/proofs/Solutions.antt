@@ -5,6 +5,7 @@ use mathlib.Core.List.{List, [], ◌∷◌, ◌++◌, map, map-append}
 use mathlib.Core.Bool.{Bool, true, false, cond, ◌&&◌, beq, and-true, and-false, and_comm, and_assoc, true≢false, false≢true}
 use native.Mathlib.Omega.{arith}
 use lib.ListN.{length, get_or, length-append}
+use Rattle.std.proofs.lemmas.Bool.{and_parts}
 use Rattle.words.specs.Set.{odd}
 use Rattle.rows.specs.Row.{Row, Assignment, overlap, meets, meets_all, add}
 use Rattle.rows.proofs.Sums.{sum_met}
@@ -19,13 +20,9 @@ use Rattle.echelon.proofs.Sorted.{insert, sorted, insert_meets, insert_length, s
 
 -- ---- one row
 
-met_parts : (a b : Bool) → (a && b) ≡ true → (a ≡ true) × (b ≡ true)
-met_parts true b e = (refl, e)
-met_parts false b e = absurd (false≢true e)
-
 each_met : (rs : List Row) (x : Assignment) → meets_all rs x ≡ true → Each (λ b. meets b x ≡ true) rs
 each_met [] x h = tt
-each_met (r ∷ rs) x h = let so = met_parts (meets r x) (meets_all rs x) h in (so.0, each_met rs x so.1)
+each_met (r ∷ rs) x h = let so = and_parts (meets r x) (meets_all rs x) h in (so.0, each_met rs x so.1)
 
 beq_true : (b : Bool) → beq b true ≡ b
 beq_true true = refl
@@ -78,7 +75,7 @@ kept_next n x r rs st e h =
       rows = λ k. same;
       pivots = λ k. sorted_next q st.rows x (empty q.atoms) q.constant refl refl k (h.pivots e);
       none = λ k.
-          let so = met_parts (empty q.atoms) q.constant k in
+          let so = and_parts (empty q.atoms) q.constant k in
           sym same ∙ ap (λ (b : Bool). b && meets_all st.rows x) (empty_meets q x true so.0 so.1);
     }
 

@@ -18,6 +18,7 @@ use Rattle.echelon.specs.Forward.{State, empty, joined, next, reduced, eliminate
 use Rattle.echelon.specs.Eliminate.{rows_to, words_of, constants_of, written, outcome}
 use Rattle.echelon.specs.Promises.{Sized}
 use Rattle.echelon.specs.declared.directory.NewPivot.{NewPivot}
+use Rattle.echelon.specs.declared.directory.Pivot.{Pivot}
 use Rattle.echelon.specs.Steps.{Clean, WordsFit, ListsPivots, IsNewPivot, Finished}
 use Rattle.echelon.proofs.Lows.{has_some}
 use Rattle.echelon.proofs.Left.{rows_le}
@@ -41,7 +42,7 @@ unfolding rows_to
 rows_length n w ws cs zero = refl
 rows_length n w ws cs (suc t) = ap suc (rows_length n w ws cs t)
 
-pub record Upto (n w t : ℕ) (ws cs ps ws' cs' ps' heads sources : List ℕ) (rank additions : ℕ) : Type 0 where
+pub record Upto (n w t : ℕ) (ws cs ps ws' cs' ps' : List ℕ) (pivots : List Pivot) (rank additions : ℕ) : Type 0 where
   pub words : length ws' ≡ length ws
   pub constants : length cs' ≡ length cs
   pub entries : length ps' ≡ length ps
@@ -52,13 +53,13 @@ pub record Upto (n w t : ℕ) (ws cs ps ws' cs' ps' heads sources : List ℕ) (r
   pub rank_is : rank ≡ length (after n w ws cs t).basis
   pub additions_is : additions ≡ (after n w ws cs t).additions
   pub going : (after n w ws cs t).refuted ≡ false
-  pub directory : ListsPivots n w t ws' cs' heads sources
+  pub directory : ListsPivots n w t ws' cs' pivots
   pub few : additions ≤ t * 512
   pub fits : WordsFit ws'
 
-pub upto_start : (n w : ℕ) (ws cs ps heads sources : List ℕ) → ListsPivots n w 0 ws cs heads sources → WordsFit ws → Upto n w 0 ws cs ps ws cs ps heads sources 0 0
+pub upto_start : (n w : ℕ) (ws cs ps : List ℕ) (pivots : List Pivot) → ListsPivots n w 0 ws cs pivots → WordsFit ws → Upto n w 0 ws cs ps ws cs ps pivots 0 0
 unfolding eliminated rows_to
-upto_start n w ws cs ps heads sources dir fits = record {
+upto_start n w ws cs ps pivots dir fits = record {
   words = refl;
   constants = refl;
   entries = refl;
@@ -112,8 +113,8 @@ stuck n w ws cs t (suc d) e =
 
 -- ---- one row more
 
-module _ (n w t : ℕ) (ws cs ps ws' cs' ps' heads sources : List ℕ) (rank additions : ℕ)
-    (so : Upto n w t ws cs ps ws' cs' ps' heads sources rank additions) where
+module _ (n w t : ℕ) (ws cs ps ws' cs' ps' : List ℕ) (pivots : List Pivot) (rank additions : ℕ)
+    (so : Upto n w t ws cs ps ws' cs' ps' pivots rank additions) where
   st : State
   st = after n w ws cs t
 
@@ -156,16 +157,16 @@ module _ (n w t : ℕ) (ws cs ps ws' cs' ps' heads sources : List ℕ) (rank add
         f.only.after' ∙ further cs' ∙ ap (drop 1) so.ahead' ∙ sym (further cs)
 
     clean_next : (r : ℕ) → r < suc t → Clean n w r ws'' cs''
-    clean_next = clean_all n w t ws'' cs'' heads sources (directory_kept n w t ws' cs' ws'' cs'' heads sources f.only so.directory) f.clean
+    clean_next = clean_all n w t ws'' cs'' pivots (directory_kept n w t ws' cs' ws'' cs'' pivots f.only so.directory) f.clean
 
     few_next : additions + k ≤ suc t * 512
     few_next = omega (arith, so.few, f.few)
 
-    upto_next : (ps'' heads'' sources'' : List ℕ) (rank'' : ℕ) → length ps'' ≡ length ps → ps'' ≡ joined (empty left.atoms) t st.basis ++ drop rank'' ps
+    upto_next : (ps'' : List ℕ) (pivots'' : List Pivot) (rank'' : ℕ) → length ps'' ≡ length ps → ps'' ≡ joined (empty left.atoms) t st.basis ++ drop rank'' ps
         → rank'' ≡ length (joined (empty left.atoms) t st.basis) → (empty left.atoms && left.constant) ≡ false
-        → ListsPivots n w (suc t) ws'' cs'' heads'' sources'' → Upto n w (suc t) ws cs ps ws'' cs'' ps'' heads'' sources'' rank'' (additions + k)
+        → ListsPivots n w (suc t) ws'' cs'' pivots'' → Upto n w (suc t) ws cs ps ws'' cs'' ps'' pivots'' rank'' (additions + k)
     unfolding st
-    upto_next ps'' heads'' sources'' rank'' entries basis rank_is going directory = record {
+    upto_next ps'' pivots'' rank'' entries basis rank_is going directory = record {
       words = f.only.words ∙ so.words;
       constants = f.only.constants ∙ so.constants;
       entries = entries;
@@ -181,22 +182,22 @@ module _ (n w t : ℕ) (ws cs ps ws' cs' ps' heads sources : List ℕ) (rank add
       fits = f.fits so.fits;
     }
 
-    directory_here : ListsPivots n w t ws'' cs'' heads sources
-    directory_here = directory_kept n w t ws' cs' ws'' cs'' heads sources f.only so.directory
+    directory_here : ListsPivots n w t ws'' cs'' pivots
+    directory_here = directory_kept n w t ws' cs' ws'' cs'' pivots f.only so.directory
 
     -- the row is left empty with constant 0
     empty_left : pivot ≡ None → empty left.atoms ≡ true
     unfolding left
     empty_left e = rw e at f.pivot_is
 
-    pub upto_empty : pivot ≡ None → (get_or cs'' t 0 ≡ 1 → ⊥) → Upto n w (suc t) ws cs ps ws'' cs'' ps' heads sources rank (additions + k)
+    pub upto_empty : pivot ≡ None → (get_or cs'' t 0 ≡ 1 → ⊥) → Upto n w (suc t) ws cs ps ws'' cs'' ps' pivots rank (additions + k)
     unfolding st left row_at
     upto_empty e ne =
         let none = empty_left e in
-        upto_next ps' heads sources rank so.entries (so.basis ∙ ap (λ (b : Bool). joined b t st.basis ++ drop rank ps) (sym none))
+        upto_next ps' pivots rank so.entries (so.basis ∙ ap (λ (b : Bool). joined b t st.basis ++ drop rank ps) (sym none))
         (so.rank_is ∙ ap (λ (b : Bool). length (joined b t st.basis)) (sym none))
         (ap (λ (b : Bool). b && left.constant) none ∙ ne_eqb (get_or cs'' t 0) 1 ne)
-        (directory_empty n w t ws'' cs'' heads sources directory_here f.clean none)
+        (directory_empty n w t ws'' cs'' pivots directory_here f.clean none)
 
     -- it has a new lowest atom
     module _ (p : NewPivot) (pivot_is : pivot ≡ Some p) where
@@ -222,17 +223,17 @@ module _ (n w t : ℕ) (ws cs ps ws' cs' ps' heads sources : List ℕ) (rank add
           omega (arith, rank_next, rows_length n w ws cs (suc t))
 
       pub upto_pivot : rank < length ps → n ≤ w * 64
-          → Upto n w (suc t) ws cs ps ws'' cs'' (set ps' rank t) (set heads p.lowest.0 p.head) (set sources p.lowest.0 t) (rank + 1) (additions + k)
+          → Upto n w (suc t) ws cs ps ws'' cs'' (set ps' rank t) (set pivots p.lowest.0 (record { head = p.head; source = record { 0 = t } })) (rank + 1) (additions + k)
       unfolding st left
       upto_pivot room wide =
           let split : ps' ≡ st.basis ++ get_or ps rank 0 ∷ drop (suc rank) ps = so.basis ∙ ap (λ (l : List ℕ). st.basis ++ l) (drop-cons ps rank 0 room) in
-          upto_next (set ps' rank t) (set heads p.lowest.0 p.head) (set sources p.lowest.0 t) (rank + 1) (simp length-set so.entries)
+          upto_next (set ps' rank t) (set pivots p.lowest.0 (record { head = p.head; source = record { 0 = t } })) (rank + 1) (simp length-set so.entries)
           (ap (λ (l : List ℕ). set l rank t) split ∙ set_at st.basis (get_or ps rank 0) (drop (suc rank) ps) t rank (sym so.rank_is)
           ∙ sym (append_snoc st.basis t (drop (suc rank) ps))
           ∙ ap₂ (λ (b : Bool) (i : ℕ). joined b t st.basis ++ drop i ps) (sym left_some) (sym (add-one rank)))
           (ap (λ (i : ℕ). i + 1) so.rank_is ∙ sym (length-append st.basis (t ∷ [])) ∙ ap (λ (b : Bool). length (joined b t st.basis)) (sym left_some))
           (ap (λ (b : Bool). b && left.constant) left_some)
-          (directory_pivot n w t ws'' cs'' heads sources directory_here f.clean wide p.head p.lowest.0 new_pivot)
+          (directory_pivot n w t ws'' cs'' pivots directory_here f.clean wide p.head p.lowest.0 new_pivot)
 
     -- the row is left empty with constant 1: the end
     pub upto_refuted : (m : ℕ) → t < m → pivot ≡ None → get_or cs'' t 0 ≡ 1

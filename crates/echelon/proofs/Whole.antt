@@ -1,8 +1,7 @@
 -- `eliminate` as a whole: refused with nothing touched, or the rows done.
-use Prim.Native.Nat.{ℕ, ◌+◌, ◌*◌, ◌≤◌, ◌<◌, min}
+use Prim.Native.Nat.{ℕ, ◌≤◌, ◌<◌, min}
 use mathlib.Core.Path.{◌≡◌, refl, ap, ◌∙◌}
 use mathlib.Core.List.{List}
-use native.Mathlib.Nat.{suc-mul, mul-le-mul_right}
 use native.Mathlib.Omega.{arith}
 use borrow.Author.Tests.{ltb-false}
 use lib.ListN.{length}
@@ -12,19 +11,16 @@ use Rattle.std.specs.Prelude.{Result, Ok, Err}
 use Rattle.refusal.specs.Refusal.{answered, left}
 use Rattle.refusal.specs.declared.Refusal.{Refusal}
 use Rattle.fit.proofs.Fitting.{Fit, joined_fit}
+use Rattle.rows.proofs.Adding.{earlier}
 use Rattle.echelon.specs.Forward.{eliminated}
 use Rattle.echelon.specs.Eliminate.{Outcome, outcome, rows_to, written, eliminate_check, eliminate_of}
 use Rattle.echelon.specs.declared.Eliminated.{Eliminated}
 use Rattle.echelon.specs.declared.shape.Shape.{Shape}
 use Rattle.echelon.specs.Steps.{Clean, Ready}
 
--- a row of fit ones lies within
-pub row_room : (r m w : ℕ) → r < m → r * w + w ≤ m * w
-row_room r m w h = omega (arith, suc-mul r w, mul-le-mul_right w h)
-
 pub fit_clean : (n m : ℕ) (ws cs : List ℕ) → Fit n m ws cs → (r : ℕ) → r < m → Clean n (width_of n) r ws cs
 fit_clean n m ws cs fit r h = record {
-  words = omega (arith, row_room r m (width_of n) h, fit.words);
+  words = omega (arith, earlier (width_of n) m r h, fit.words);
   constants = omega (arith, fit.constants);
   atoms = fit.clean r h;
   constant = fit.small r h;

@@ -9,6 +9,7 @@ use lib.ListN.{length, get_or, take, drop, length-append}
 use lib.Seq.{take_at, drop_at, get_or_at, take-add, take-suc, get_or-drop}
 use lib.Dec.{eqb}
 use lib.Pow.{pow_mono, pow_pos}
+use Rattle.rows.proofs.Constants.{bool_back}
 use Rattle.words.specs.Set.{packed, set_of}
 use Rattle.words.proofs.Bitwise.{one}
 use Rattle.rows.specs.Row.{Row}
@@ -60,10 +61,6 @@ constant_written (r ∷ rs) y s h =
     ∙ numbered_each (λ t q. get_or (constants_of rs ++ (own ∷ y)) t 0 ≡ cond q.constant 1 0) r rs
     (get_or_at (constants_of rs) own y 0 (length rs) (constants_length rs)) (constant_written rs (own ∷ y)) s h
 
-bit_eqb : (b : Bool) → eqb (cond b 1 0) 1 ≡ b
-bit_eqb true = refl
-bit_eqb false = refl
-
 pub numbered_at : (n w : ℕ) (rs : List Row) → Sized n rs → n ≤ w * 64 → (x y : List ℕ) (s : ℕ) → s < length rs
     → row_at n w (words_of w rs ++ x) (constants_of rs ++ y) s ≡ numbered rs s
 unfolding row_at
@@ -73,7 +70,7 @@ numbered_at n w rs sized wide x y s below =
     ap₂ (λ (l : List Bool) (c : Bool). record { atoms = l; constant = c })
     (ap (λ (l : List ℕ). atoms_of n (set_of l)) (row_written w rs x s below)
     ∙ ap (λ (k : ℕ). atoms_of k (packed 64 (unpack 64 w (mask_of r.atoms)))) (sym long) ∙ words_hold_atoms 64 w r.atoms (omega (arith, long)))
-    (ap (λ (k : ℕ). eqb k 1) (constant_written rs y s below) ∙ bit_eqb r.constant)
+    (ap (λ (k : ℕ). eqb k 1) (constant_written rs y s below) ∙ bool_back r.constant)
 
 pub fit_words : (n w : ℕ) (rs : List Row) → Sized n rs → n ≤ w * 64 → (x : List ℕ) (s : ℕ) → s < length rs → set_of (row w (words_of w rs ++ x) s) < 2 ^ n
 fit_words n w rs sized wide x s below =

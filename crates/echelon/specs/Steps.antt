@@ -59,11 +59,14 @@ pub record Known (n w t : ℕ) (ws cs : List ℕ) (h s a : ℕ) : Type 0 where
   pub below : 0 < h → EmptyTo w s ws (a / 64)
   pub found : 0 < h → (r : Row) → Lowest r a → find r (rows_to n w ws cs t) ≡ some (row_at n w ws cs s)
 
-pub record ListsPivots (n w t : ℕ) (ws cs heads sources : List ℕ) : Type 0 where
-  pub heads_wide : w * 64 ≤ length heads
-  pub sources_wide : w * 64 ≤ length sources
+-- An atom without a pivot has this one.
+abbrev pub no_pivot : Pivot
+no_pivot = record { head = 0; source = record { 0 = 0 } }
+
+pub record ListsPivots (n w t : ℕ) (ws cs : List ℕ) (pivots : List Pivot) : Type 0 where
+  pub wide : w * 64 ≤ length pivots
   pub clean : (r : ℕ) → r < t → Clean n w r ws cs
-  pub known : (a : ℕ) → a < n → Known n w t ws cs (get_or heads a 0) (get_or sources a 0) a
+  pub known : (a : ℕ) → a < n → Known n w t ws cs (get_or pivots a no_pivot).head (get_or pivots a no_pivot).source.0 a
 
 -- The words of row t replaced.
 unfoldable pub put : ℕ → ℕ → List ℕ → List ℕ → List ℕ
@@ -74,14 +77,14 @@ abbrev pub added_from : ℕ → ℕ → List ℕ → ℕ → ℕ → List ℕ
 added_from i w ws t s = put w t ws (take i (row w ws t) ++ zip_with bit_xor (drop i (row w ws t)) (drop i (row w ws s)))
 
 -- The head of the pivot of the lowest atom of word i, or 0 where there is none.
-unfoldable pub head_of : List ℕ → ℕ → ℕ → ℕ
-head_of heads i word = cond (eqb word 0) 0 (get_or heads (i * 64 + count_trailing_zeros 64 word) 0)
+unfoldable pub head_of : List Pivot → ℕ → ℕ → ℕ
+head_of pivots i word = cond (eqb word 0) 0 (get_or pivots (i * 64 + count_trailing_zeros 64 word) no_pivot).head
 
 -- The pivot of the lowest atom of word i.
-pub record IsPivotOf (heads sources : List ℕ) (i word : ℕ) (pivot : Pivot) : Type 0 where
+pub record IsPivotOf (pivots : List Pivot) (i word : ℕ) (pivot : Pivot) : Type 0 where
   pub some : 0 < pivot.head
-  pub head : pivot.head ≡ head_of heads i word
-  pub source : pivot.source.0 ≡ get_or sources (i * 64 + count_trailing_zeros 64 word) 0
+  pub head : pivot.head ≡ head_of pivots i word
+  pub source : pivot.source ≡ (get_or pivots (i * 64 + count_trailing_zeros 64 word) no_pivot).source
 
 -- Row t after k additions at words from i on.
 pub record Reduced (n w t i : ℕ) (ws cs ws' cs' : List ℕ) (k : ℕ) : Type 0 where
@@ -122,8 +125,8 @@ CleanRow r t = Clean r.shape.atoms r.shape.width t r.words.now r.constants.now
 abbrev pub EmptyBefore : Rows → ℕ → ℕ → Type 0
 EmptyBefore r t i = EmptyTo r.shape.width t r.words.now i
 
-abbrev pub Listed : Rows → ℕ → List ℕ → List ℕ → Type 0
-Listed r t heads sources = ListsPivots r.shape.atoms r.shape.width t r.words.now r.constants.now heads sources
+abbrev pub Listed : Rows → ℕ → List Pivot → Type 0
+Listed r t pivots = ListsPivots r.shape.atoms r.shape.width t r.words.now r.constants.now pivots
 
 abbrev pub ReducesWord : Rows → Rows → ℕ → ℕ → ℕ → Type 0
 ReducesWord r r' t i k = Reduced r.shape.atoms r.shape.width t i r.words.now r.constants.now r'.words.now r'.constants.now k

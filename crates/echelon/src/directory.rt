@@ -1,6 +1,6 @@
 // The directory: the pivots so far, by their lowest atoms.
 ghost use Rattle.std.specs.Prelude.{◌≡◌, ◌+◌, ◌*◌, ◌<◌, ◌≤◌, MatchOption, replicate, slice_set};
-ghost use Rattle.echelon.specs.Steps.{head_of, IsPivotOf};
+ghost use Rattle.echelon.specs.Steps.{no_pivot, head_of, IsPivotOf};
 
 use rows::{Atom, Source};
 
@@ -18,57 +18,55 @@ pub struct NewPivot {
     pub lowest: Atom,
 }
 
-// For each atom with a pivot the pivot's head and number. A head of 0 is an atom without a pivot: an array of `Option<Pivot>` has three
-// words an entry to clear and to read, and the same loops over it, tried in Rust, took a fifth longer at 64 atoms, a twentieth at 512.
+// What an atom without a pivot has: a pivot's head is not 0.
+const NONE: Pivot = Pivot {
+    head: 0,
+    source: Source(0),
+};
+
+// For each atom its pivot. An atom without one has `NONE` and no Option, which is a third word an entry to clear and to read: the same loops with it,
+// tried in Rust, took 1.14 to 1.25 of the time at 3, 8 and 64 atoms, and missed half of plain C's (docs/PERFORMANCE.md).
 #[derive(Clone, Copy)]
 pub struct Directory<const N: usize> {
-    pub heads: [u64; N],
-    pub sources: [usize; N],
+    pub pivots: [Pivot; N],
+    pub ghost small: { N ≤ 512 },
 }
 
 impl<const N: usize> Directory<N> {
     pub fn empty() -> Directory<N>
         requires { N ≤ 512 }
-        ensures heads { result.heads ≡ replicate N 0 }
-        ensures sources { result.sources ≡ replicate N 0 }
+        ensures { result.pivots ≡ replicate N no_pivot }
     {
-        Directory {
-            heads: [0; N],
-            sources: [0; N],
-        }
+        Directory { pivots: [NONE; N] }
     }
 
     // The pivot of the lowest atom of word i of a row, if there is one.
     #[tactic(auto, unfolding(crate::specs::Steps::head_of))]
     pub fn pivot_of(&self, i: usize, word: u64) -> Option<Pivot>
         requires { i * 64 + 64 ≤ N }
-        ensures { MatchOption result (head_of self.now.heads i word ≡ 0) (IsPivotOf self.now.heads self.now.sources i word) }
+        ensures { MatchOption result (head_of self.now.pivots i word ≡ 0) (IsPivotOf self.now.pivots i word) }
     {
         if word == 0 {
             return None;
         }
         // Where word i's part begins stays as it is while the word is reduced, so it is taken first.
-        let heads = &self.heads[..];
-        let part = &heads[i * 64..i * 64 + 64];
-        let bit = word.trailing_zeros() as usize;
-        let head = part[bit];
-        if head == 0 {
+        let pivots = &self.pivots[..];
+        let part = &pivots[i * 64..i * 64 + 64];
+        let pivot = part[word.trailing_zeros() as usize];
+        if pivot.head == 0 {
             return None;
         }
-        Some(Pivot {
-            head,
-            source: Source(self.sources[i * 64 + bit]),
-        })
+        Some(pivot)
     }
 
     // Enters a row as the pivot of its lowest atom.
     pub fn enter(&mut self, pivot: NewPivot, source: Source)
         requires { pivot.lowest.0 < N }
-        ensures heads { self.new.heads ≡ slice_set self.old.heads pivot.lowest.0 pivot.head }
-        ensures sources { self.new.sources ≡ slice_set self.old.sources pivot.lowest.0 source.0 }
+        ensures { self.new.pivots ≡ slice_set self.old.pivots pivot.lowest.0 (record { head = pivot.head; source = source }) }
     {
-        let atom = pivot.lowest.0;
-        self.heads[atom] = pivot.head;
-        self.sources[atom] = source.0;
+        self.pivots[pivot.lowest.0] = Pivot {
+            head: pivot.head,
+            source,
+        };
     }
 }

@@ -27,7 +27,8 @@ pub struct Eliminated {
     pub refuted: bool,
 }
 
-// Reduces the rows in order, with a directory for N atoms. Inlined for both sizes, the compiled code kept less in registers.
+// Reduces the rows in order, with a directory for N atoms. Inlined for both sizes, the compiled code kept less in registers. (By number: a row is
+// reduced by rows before it in the same memory, and the basis is a lent list whose next place `rank` says.)
 #[inline(never)]
 fn eliminate_rows<const N: usize>(
     shape: Shape,
@@ -77,7 +78,8 @@ fn eliminate_rows<const N: usize>(
     }
 }
 
-// Whether what is lent is fit.
+// Whether what is lent is fit. (`parity` checks more lists in the same order, its own between the two tests of the rows, as here: a function of what
+// else may be short would say more than both.)
 #[tactic(auto, unfolding(crate::specs::Eliminate::eliminate_check, fit::specs::Rows::rows_check))]
 fn check(n: usize, m: usize, rows: &[u64], constants: &[u8], basis: &[usize]) -> Result<(), Refusal>
     ensures { result ≡ eliminate_check n m rows.now constants.now basis.now }

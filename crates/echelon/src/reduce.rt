@@ -43,24 +43,26 @@ fn new_pivot(i: usize, word: u64) -> NewPivot
     }
 }
 
-// Adds the words of an earlier row from word i on to those of a later one.
-fn add_words(words: &mut [u64], width: usize, target: Source, source: Source, i: usize)
+// Adds the words of an earlier row from word i on to those of a later one: `rows::add_words`, which is private since it has a `requires`, with a
+// place to begin at. Where no word is left, and in a row of one word none is, the split would cost a tenth of the reduction.
+fn add_words(rows: &mut [u64], width: usize, target: Source, source: Source, i: usize)
     requires earlier { source.0 < target.0 }
-    requires within { target.0 * width + width ≤ length words.old }
+    requires within { target.0 * width + width ≤ length rows.old }
     requires place { i ≤ width }
-    ensures { words.new ≡ added_from i width words.old target.0 source.0 }
+    ensures { rows.new ≡ added_from i width rows.old target.0 source.0 }
 {
-    let to = target.0 * width;
-    let from = source.0 * width;
-    for k in i..width {
-        words[to + k] ^= words[from + k];
+    if i == width {
+        return;
     }
+    let (earlier, later) = rows.split_at_mut(target.0 * width);
+    let start = source.0 * width;
+    words::xor_assign(&mut later[i..width], &earlier[start + i..start + width]);
 }
 
 impl Rows<'_> {
     // The first word of a row that is not empty.
     fn first_word(&self, number: Source) -> Option<usize>
-        requires { CleanRow self.now number.0 }
+        requires { number.0 * self.now.shape.width + self.now.shape.width ≤ length self.now.words.now }
         ensures { result ≡ position (λ word. not (word == 0)) (row self.now.shape.width self.now.words.now number.0) }
     {
         let start = number.0 * self.shape.width;
@@ -76,15 +78,14 @@ impl Rows<'_> {
         i: usize,
         directory: &Directory<N>,
     ) -> LeftWord
-        requires size { N ≤ 512 }
         requires place { i < self.old.shape.width }
         requires clean { CleanRow self.old number.0 }
         requires empty { EmptyBefore self.old number.0 i }
-        requires listed { Listed self.old number.0 directory.now.heads directory.now.sources }
+        requires listed { Listed self.old number.0 directory.now.pivots }
         ensures same { SameRows self.old self.new }
         ensures left { ReducesWord self.old self.new number.0 i result.additions }
         ensures word { result.word ≡ slice_index self.new.words.now (number.0 * self.old.shape.width + i) }
-        ensures done { head_of directory.now.heads i result.word ≡ 0 }
+        ensures done { head_of directory.now.pivots i result.word ≡ 0 }
     {
         let t = number.0;
         let width = self.shape.width;
@@ -103,21 +104,27 @@ impl Rows<'_> {
         LeftWord { word, additions }
     }
 
-    // Reduces a row whose words before word `first` are empty, until its lowest atom has no pivot among the earlier rows, or it is empty.
-    fn reduce_from<const N: usize>(
-        &mut self,
-        number: Source,
-        first: usize,
-        directory: &Directory<N>,
-    ) -> LeftRow
-        requires size { N ≤ 512 }
-        requires place { first ≤ self.old.shape.width }
+    // Reduces a row until its lowest atom has no pivot among the earlier rows, or it is empty. Where it has none from the start, nothing is
+    // written. (By number: what is reduced is word i of a row among all rows.)
+    pub fn reduce<const N: usize>(&mut self, number: Source, directory: &Directory<N>) -> LeftRow
         requires clean { CleanRow self.old number.0 }
-        requires empty { EmptyBefore self.old number.0 first }
-        requires listed { Listed self.old number.0 directory.now.heads directory.now.sources }
+        requires listed { Listed self.old number.0 directory.now.pivots }
         ensures same { SameRows self.old self.new }
         ensures left { ReducesRow self.old self.new number.0 result.pivot result.additions }
     {
+        let Some(first) = self.first_word(number) else {
+            return LeftRow {
+                pivot: None,
+                additions: 0,
+            };
+        };
+        let word = self.words[number.0 * self.shape.width + first];
+        let Some(_) = directory.pivot_of(first, word) else {
+            return LeftRow {
+                pivot: Some(new_pivot(first, word)),
+                additions: 0,
+            };
+        };
         let mut additions = 0;
         for i in first..self.shape.width {
             let left = self.reduce_word(number, i, directory);
@@ -132,31 +139,6 @@ impl Rows<'_> {
         LeftRow {
             pivot: None,
             additions,
-        }
-    }
-
-    // Reduces a row until its lowest atom has no pivot among the earlier rows, or it is empty. Where it has none from the start, nothing is
-    // added.
-    pub fn reduce<const N: usize>(&mut self, number: Source, directory: &Directory<N>) -> LeftRow
-        requires size { N ≤ 512 }
-        requires clean { CleanRow self.old number.0 }
-        requires listed { Listed self.old number.0 directory.now.heads directory.now.sources }
-        ensures same { SameRows self.old self.new }
-        ensures left { ReducesRow self.old self.new number.0 result.pivot result.additions }
-    {
-        let Some(first) = self.first_word(number) else {
-            return LeftRow {
-                pivot: None,
-                additions: 0,
-            };
-        };
-        let word = self.words[number.0 * self.shape.width + first];
-        match directory.pivot_of(first, word) {
-            Some(_) => self.reduce_from(number, first, directory),
-            None => LeftRow {
-                pivot: Some(new_pivot(first, word)),
-                additions: 0,
-            },
         }
     }
 }

@@ -9,6 +9,7 @@ use borrow.Author.Tests.{eqb-true, eqb-false}
 use lib.ListN.{length, get_or, take, drop, set, replicate, length-replicate}
 use lib.Seq.{length-take-le, ext_get_or, take_at, drop_at, drop-drop, get_or-append-add, get_or-set_same, get_or-set_other}
 use lib.Dec.{eqb}
+use Rattle.rows.proofs.Constants.{bool_back}
 use Rattle.words.specs.Set.{packed, set_of, has, odd}
 use Rattle.words.specs.Calls.{inserted}
 use Rattle.words.proofs.Meaning.{insert_adds, has_none}
@@ -121,10 +122,6 @@ constants_at [] rest m h = let z : ⊥ = omega arith in absurd z
 constants_at (e ∷ es) rest zero h = refl
 constants_at (e ∷ es) rest (suc m) h = constants_at es rest m (omega arith)
 
-one_is : (b : Bool) → eqb (one_if b) 1 ≡ b
-one_is true = refl
-one_is false = refl
-
 pub write_embeds : WriteEmbeds
 unfolding row_at written_words written_constants
 write_embeds n w ws cs names es first m words constants wide rising h =
@@ -143,4 +140,4 @@ write_embeds n w ws cs names es first m words constants wide rising h =
     ∙ get_or-append-add (take f cs) (constants_of es ++ drop (f + length es) cs) m 0 ∙ constants_at es (drop (f + length es) cs) m h in
     ap₂ (λ (l : List Bool) (b : Bool). record { atoms = l; constant = b })
     (ap (λ (l : List ℕ). atoms_of n (set_of l)) is ∙ atoms_marked n w names e.coefficients wide rising)
-    (ap (λ (k : ℕ). eqb k 1) constant ∙ one_is e.constant)
+    (ap (λ (k : ℕ). eqb k 1) constant ∙ bool_back e.constant)

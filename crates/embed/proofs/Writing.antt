@@ -3,7 +3,7 @@ use Prim.Native.Nat.{ℕ, suc, ◌+◌, ◌*◌, ◌/◌, ◌≤◌, ◌<◌}
 use mathlib.Core.Path.{◌≡◌, refl, sym, ap, ap₂, ◌∙◌}
 use mathlib.Core.List.{List, [], ◌∷◌, ◌++◌, append-nil, append_assoc, map-append}
 use mathlib.Core.Bool.{Bool, true, false, cond, ◌&&◌, and-eq-true_iff}
-use native.Mathlib.Nat.{suc-mul, zero-mul, add-zero, add-mul, mul-le-mul_right}
+use native.Mathlib.Nat.{suc-mul, zero-mul, add-zero, add-mul}
 use native.Mathlib.Omega.{arith}
 use borrow.Author.Tests.{leb-true}
 use lib.Dec.{leb}
@@ -143,11 +143,6 @@ module _ (w : ℕ) (names : List ℕ) (es : List LocalEquation) (ws cs : List �
       ∙ ap (λ (n : ℕ). take f.0 cs ++ (constants_of es ++ drop (f.0 + n) cs)) (length-map es (λ (d : LocalEquation). one_if d.constant))
 
 -- ---- room
-
-pub row_room : (f m n w : ℕ) → m < n → (f + m) * w + w ≤ (f + n) * w
-row_room f m n w h =
-    let le : suc (f + m) ≤ f + n = omega arith in
-    omega (arith, suc-mul (f + m) w, mul-le-mul_right w le)
 
 -- what the tests of `write` tell
 pub record CanWrite (n c w count f : ℕ) : Type 0 where

@@ -1,19 +1,21 @@
-// A hull's equations written as rows over the atoms that its table names, in lent rows and constants.
+// A hull's equations written as rows over the atoms that its table names, in lent rows and constants, all passed one by one, as C lends them.
 #![tactic(auto)]
 
 ghost use Rattle.std.specs.Prelude.{◌≡◌, ◌++◌, cond, ◌&&◌, ◌+◌, ◌*◌, ◌≤◌, length, take, drop, replicate, leb};
 ghost use Rattle.hull.specs.Propose.{limit};
 ghost use Rattle.embed.specs.Written.{marked, names_within, writable, written_words, written_constants};
 
-use hull::{Hull, LocalEquation};
+use hull::{Hull, LIMIT, LocalEquation};
 use rows::Source;
 
 pub mod promises;
 
-// Sets the atoms named by the set bits of the coefficients: bit i belongs to the i-th name.
-fn mark(row: &mut [u64], coefficients: u8, names: &[usize])
-    ensures { row.new ≡ marked names.now coefficients row.old }
+// Writes one row: the atoms named by the set bits of the coefficients, bit i for the i-th name. (`load` writes rows too, of the atoms that a record
+// names: the two share no more than the calls of `words`.)
+fn write_row(row: &mut [u64], coefficients: u8, names: &[usize])
+    ensures { row.new ≡ marked names.now coefficients (replicate (length row.old) 0) }
 {
+    words::clear(row);
     let mut rest = coefficients;
     for name in names {
         if rest % 2 == 1 {
@@ -23,44 +25,22 @@ fn mark(row: &mut [u64], coefficients: u8, names: &[usize])
     }
 }
 
-// Writes one row of `width` words from word `start` on.
-fn write_row(rows: &mut [u64], start: usize, width: usize, coefficients: u8, names: &[usize])
-    requires { start + width ≤ length rows.old }
-    ensures { rows.new ≡ take start rows.old ++ (marked names.now coefficients (replicate width 0) ++ drop (start + width) rows.old) }
-{
-    let end = start + width;
-    words::clear(&mut rows[start..end]);
-    mark(&mut rows[start..end], coefficients, names);
-}
-
 fn names_within(names: &[usize], width: usize) -> bool
     ensures { result ≡ names_within width names.now }
 {
     names.iter().all(|name| *name / 64 < width)
 }
 
-// Whether `count` rows from row `first` on lie within the rows and the constants; nothing that could wrap is worked out.
+// Whether `count` rows from row `first` on lie within the rows and the constants.
 fn can_write(words: usize, constants: usize, width: usize, count: usize, first: Source) -> bool
     ensures { result ≡ (leb count limit && (leb (first.0 + count) constants && leb ((first.0 + count) * width) words)) }
 {
-    let at = first.0;
-    if 8 < count {
-        return false;
-    }
-    if constants < count {
-        return false;
-    }
-    if constants - count < at {
-        return false;
-    }
-    let rows = at + count;
-    if width == 0 {
-        return true;
-    }
-    rows <= words / width
+    count <= LIMIT
+        && rows::lie_within(constants, 1, first.0, count)
+        && rows::lie_within(words, width, first.0, count)
 }
 
-// Writes equations, one row after another.
+// Writes equations, one row after another. (By number: rows of no words are no chunks.)
 fn write_rows(
     equations: &[LocalEquation],
     names: &[usize],
@@ -76,7 +56,12 @@ fn write_rows(
 {
     for (i, equation) in equations.iter().enumerate() {
         let row = first.0 + i;
-        write_row(rows, row * width, width, equation.coefficients, names);
+        let start = row * width;
+        write_row(
+            &mut rows[start..start + width],
+            equation.coefficients,
+            names,
+        );
         constants[row] = u8::from(equation.constant);
     }
 }

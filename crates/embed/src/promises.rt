@@ -2,11 +2,13 @@
 ghost use Rattle.embed.specs.Promises.{TableIsRows, WriteEmbeds};
 
 // "An assignment meets a table when it gives these atoms no forbidden pattern."
+#[tactic(auto, using(crate::proofs::Embedded::table_is_rows))]
 pub fn table_is_rows()
     ensures { TableIsRows }
 {}
 
 // "bit i of a pattern belongs to the i-th atom named."
+#[tactic(auto, using(crate::proofs::Named::write_embeds))]
 pub fn write_embeds()
     ensures { WriteEmbeds }
 {}

@@ -3,7 +3,7 @@
 -- row or mask that is not there; 3 more bits than a usize numbers. A kind other than 0 has the value 0. Decisions and inspections have kinds
 -- of their own.
 use Rattle.std.specs.Prelude.{ℕ, ◌*◌, List, Bool, false, cond, replicate, Option, Some, None, Result, Ok, Err}
-use Rattle.words.specs.declared.Place.{Place}
+use Rattle.std.specs.Result.{result_unwrap_or}
 use Rattle.words.specs.declared.SetBits.{SetBits}
 use Rattle.words.specs.declared.Unfit.{Unfit}
 use Rattle.words.specs.declared.Unfit.TheVariants.{Unequal, TooWide}
@@ -12,7 +12,7 @@ use Rattle.rows.specs.declared.Source.{Source}
 use Rattle.rows.specs.declared.Ordinal.{Ordinal}
 use Rattle.rows.specs.declared.Outside.{Outside}
 use Rattle.rows.specs.Calls.{within}
-use Rattle.refusal.specs.Refusal.{number_of, number_in, answered, given_or}
+use Rattle.refusal.specs.Refusal.{number_of, number_in, answered}
 use Rattle.refusal.specs.declared.Refusal.{Refusal}
 use Rattle.hull.specs.Propose.{blank}
 use Rattle.hull.specs.declared.Hull.{Hull}
@@ -31,7 +31,6 @@ use Rattle.inspect.specs.declared.Step.{Step as Inspecting}
 use Rattle.inspect.specs.declared.Step.TheVariants.{Unchanged, Changed, Refuted}
 use Rattle.probe.specs.declared.Probed.{Probed as Probing}
 use Rattle.ffi.specs.declared.Answer.{Answer}
-use Rattle.ffi.specs.declared.Located.{Located}
 use Rattle.ffi.specs.declared.Step.{Step}
 use Rattle.ffi.specs.declared.Span.{Span}
 use Rattle.ffi.specs.declared.hulls.Proposal.{Proposal}
@@ -61,9 +60,6 @@ abbrev pub atom_number : ℕ → Atom
 atom_number n = record { 0 = n }
 
 -- ---- the answers of `words`
-
-abbrev pub located_answer : Place → Located
-located_answer p = record { word = p.word; bit = p.bit }
 
 -- A step of a visit: the bit it gave, if one was left, and what is left then.
 abbrev pub next_answer : Option ℕ × SetBits → Step
@@ -109,6 +105,11 @@ abbrev pub overlap_answer : Result ℕ Outside → Answer
 overlap_answer (Ok n) = answer 0 n
 overlap_answer (Err e) = answer 2 0
 
+-- A start and a length with kind 0, or kind 2 where there are none.
+abbrev pub span_answer : Option (ℕ × ℕ) → Span
+span_answer (Some p) = record { kind = 0; start = p.0; length = p.1 }
+span_answer None = record { kind = 2; start = 0; length = 0 }
+
 -- Where a row lies among the words: kind 0 with its start and its length, or kind 2.
 unfoldable pub span_of : ℕ → List ℕ → Source → Span
 span_of w ws r =
@@ -117,7 +118,7 @@ span_of w ws r =
 -- Where an atom's column lies in the index: kind 0 with its start and its length, or kind 2 where it is refused.
 unfoldable pub column_span_of : List ℕ → ℕ → ℕ → Atom → Span
 column_span_of index n rank a =
-    given_or
+    result_unwrap_or
     (answered (column_check index n rank a) (record { kind = 0; start = a.0 * column_width rank; length = column_width rank }))
     (record { kind = 2; start = 0; length = 0 })
 

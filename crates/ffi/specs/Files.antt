@@ -20,11 +20,15 @@ abbrev pub checked_told : Result Found Fault → Checked
 checked_told (Ok c) = taken c
 checked_told (Err fault) = refused fault
 
--- Its rows loaded: "9: a lent buffer too short" besides.
+-- "9: a lent buffer too short"
+abbrev pub not_loaded : LoadError → Checked
+not_loaded (Unfit fault) = refused fault
+not_loaded Short = record { number = 9; offset = 0; atoms = 0; rows = 0 }
+
+-- Its rows loaded.
 abbrev pub loaded_told : Result Found LoadError → Checked
 loaded_told (Ok c) = taken c
-loaded_told (Err (Unfit fault)) = refused fault
-loaded_told (Err Short) = record { number = 9; offset = 0; atoms = 0; rows = 0 }
+loaded_told (Err error) = not_loaded error
 
 -- Its text: the number of its bytes, or 9.
 abbrev pub answered_told : Result ℕ NoRoom → Answered

@@ -1,9 +1,9 @@
 // The calls on files for C: those of `records`, `load` and `answer`. specs/Files.antt says how each answer is told.
-ghost use Rattle.std.specs.Prelude.{◌≡◌};
+ghost use Rattle.std.specs.Prelude.{◌≡◌, MatchResult};
 ghost use Rattle.records.specs.Check.{check_of};
 ghost use Rattle.load.specs.Load as load;
 ghost use Rattle.answer.specs.Answer as answer;
-ghost use Rattle.ffi.specs.Files.{taken, refused, checked_told, loaded_told, answered_told};
+ghost use Rattle.ffi.specs.Files.{taken, refused, not_loaded, checked_told, loaded_told, answered_told};
 
 use answer::NoRoom;
 use load::LoadError;
@@ -53,30 +53,30 @@ impl From<Fault> for Checked {
     }
 }
 
-impl From<Result<records::Checked, Fault>> for Checked {
-    ghost from_gives = { λ answered told. told ≡ checked_told answered };
+impl From<LoadError> for Checked {
+    ghost from_gives = { λ error told. told ≡ not_loaded error };
 
-    fn from(answered: Result<records::Checked, Fault>) -> Checked {
-        match answered {
-            Ok(found) => Checked::from(found),
-            Err(fault) => Checked::from(fault),
-        }
-    }
-}
-
-impl From<Result<records::Checked, LoadError>> for Checked {
-    ghost from_gives = { λ answered told. told ≡ loaded_told answered };
-
-    fn from(answered: Result<records::Checked, LoadError>) -> Checked {
-        match answered {
-            Ok(found) => Checked::from(found),
-            Err(LoadError::Unfit(fault)) => Checked::from(fault),
-            Err(LoadError::Short) => Checked {
+    fn from(error: LoadError) -> Checked {
+        match error {
+            LoadError::Unfit(fault) => Checked::from(fault),
+            LoadError::Short => Checked {
                 number: 9,
                 offset: 0,
                 atoms: 0,
                 rows: 0,
             },
+        }
+    }
+}
+
+// What was found, or why nothing was.
+impl<E: Into<Checked>> From<Result<records::Checked, E>> for Checked {
+    ghost from_gives = { λ answered told. MatchResult answered (λ found. told ≡ taken found) (λ e. E.converts e told) };
+
+    fn from(answered: Result<records::Checked, E>) -> Checked {
+        match answered {
+            Ok(found) => Checked::from(found),
+            Err(error) => error.into(),
         }
     }
 }

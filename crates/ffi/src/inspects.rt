@@ -4,7 +4,7 @@ ghost use Rattle.region.specs.Calls.{undecided_of, hold_of, cut_of};
 ghost use Rattle.snapshot.specs.Knowledge.{fresh, publish_of};
 ghost use Rattle.snapshot.specs.Touch.{selected_of};
 ghost use Rattle.inspect.specs.Inspect.{filled, inspect_of};
-ghost use Rattle.ffi.specs.Answers.{atom_number, new_region_answer, decided_answer, published_answer, selected_answer, step_kind, inspected_answer, outcome_answer};
+ghost use Rattle.ffi.specs.Answers.{atom_number, new_region_answer, decided_answer, published_answer, selected_answer, inspected_answer, outcome_answer};
 
 use inspect::{Inspected, Step};
 use parity::System;
@@ -13,7 +13,8 @@ use region::{Answer, Region};
 use rows::Atom;
 use snapshot::{Ordinals, Snapshot};
 
-// A new region with number 0, or the number under which it is refused.
+// A new region with number 0, or the number under which it is refused. This, `Published` and `Selected` below, and `Proposal` of hulls.rt are each a
+// number and a value, and no one generic struct: C knows their fields by name.
 #[repr(C)]
 #[derive(Clone, Copy)]
 pub struct NewRegion {
@@ -92,41 +93,41 @@ impl From<Result<Ordinals, Refusal>> for Selected {
     }
 }
 
-// A decision's answer, with the region as it is then: of two values, so no From.
-fn decided(answer: Result<Answer, Refusal>, region: Region) -> Decision
-    ensures { result ≡ decided_answer (answer, region) }
-{
-    let (kind, number) = match answer {
-        Ok(Answer::Taken) => (0, 0),
-        Ok(Answer::Same) => (1, 0),
-        Ok(Answer::Against) => (2, 0),
-        Err(refusal) => (3, refusal.number()),
-    };
-    Decision {
-        kind,
-        number,
-        region,
+impl From<(Result<Answer, Refusal>, Region)> for Decision {
+    ghost from_gives = { λ decided told. told ≡ decided_answer decided };
+
+    fn from((answer, region): (Result<Answer, Refusal>, Region)) -> Decision {
+        let (kind, number) = match answer {
+            Ok(answer) => (answer as usize, 0),
+            Err(refusal) => (3, refusal.number()),
+        };
+        Decision {
+            kind,
+            number,
+            region,
+        }
     }
 }
 
-// The kind of an inspection that is not refused.
-fn step_kind(step: Step) -> usize
-    ensures { result ≡ step_kind step }
-{
-    match step {
-        Step::Unchanged => 0,
-        Step::Changed => 1,
-        Step::Refuted => 2,
+impl From<(Result<(), Refusal>, Snapshot)> for Published {
+    ghost from_gives = { λ published told. told ≡ published_answer published };
+
+    fn from((answer, known): (Result<(), Refusal>, Snapshot)) -> Published {
+        Published {
+            number: crate::number(answer),
+            known,
+        }
     }
 }
 
-// An inspection's answer; where it is refused, with region and knowledge as they were passed: of three values, so no From.
+// An inspection's answer; where it is refused, with region and knowledge as they were passed. (No From: these two are the caller's, and
+// not of the answer.)
 fn inspected(answer: Result<Inspected, Refusal>, region: Region, known: Snapshot) -> Inspection
     ensures { result ≡ inspected_answer region known answer }
 {
     match answer {
         Ok(inspected) => Inspection {
-            kind: step_kind(inspected.answer),
+            kind: inspected.answer as usize,
             number: 0,
             held: inspected.held,
             cut: inspected.cut,
@@ -153,18 +154,16 @@ pub fn worzubil_undecided(n: usize) -> NewRegion
     NewRegion::from(Region::undecided(n))
 }
 
-pub fn worzubil_hold(mut region: Region, atom: usize) -> Decision
+pub fn worzubil_hold(region: Region, atom: usize) -> Decision
     ensures { result ≡ decided_answer (hold_of region (atom_number atom)) }
 {
-    let answer = region.hold(Atom(atom));
-    decided(answer, region)
+    Decision::from(region.hold(Atom(atom)))
 }
 
-pub fn worzubil_cut(mut region: Region, atom: usize) -> Decision
+pub fn worzubil_cut(region: Region, atom: usize) -> Decision
     ensures { result ≡ decided_answer (cut_of region (atom_number atom)) }
 {
-    let answer = region.cut(Atom(atom));
-    decided(answer, region)
+    Decision::from(region.cut(Atom(atom)))
 }
 
 pub fn worzubil_fresh() -> Snapshot
@@ -173,11 +172,10 @@ pub fn worzubil_fresh() -> Snapshot
     Snapshot::fresh()
 }
 
-pub fn worzubil_publish(mut known: Snapshot, region: Region) -> Published
+pub fn worzubil_publish(known: Snapshot, region: Region) -> Published
     ensures { result ≡ published_answer (publish_of known region) }
 {
-    let number = crate::number(known.publish(region));
-    Published { number, known }
+    Published::from(known.publish(region))
 }
 
 pub fn worzubil_touched(system: System, index: &[u64], region: Region, known: Snapshot) -> Selected

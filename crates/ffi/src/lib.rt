@@ -13,7 +13,7 @@ ghost use Rattle.words.specs.Calls.{place_of, next_of, inserted, merged, subset_
 ghost use Rattle.rows.specs.Flat.{width_of};
 ghost use Rattle.rows.specs.Calls.{source_of, row_of, lowest_of, overlap_parity_of, overlap_count_of, addable, added_words, added_constants};
 ghost use Rattle.refusal.specs.Refusal.{number_in};
-ghost use Rattle.ffi.specs.Answers.{answer, yes_answer, unfit_answer, set_bits, row_number, basis_place, located_answer, next_answer, found_answer, counted_answer, verdict_answer, entry_answer, lowest_answer, parity_answer, overlap_answer, span_of};
+ghost use Rattle.ffi.specs.Answers.{answer, yes_answer, unfit_answer, set_bits, row_number, basis_place, next_answer, found_answer, counted_answer, verdict_answer, entry_answer, lowest_answer, parity_answer, overlap_answer, span_answer, span_of};
 
 use refusal::Refusal;
 
@@ -32,14 +32,6 @@ pub struct Answer {
     pub value: usize,
 }
 
-// Where an atom stands: its word, and its bit in that word.
-#[repr(C)]
-#[derive(Clone, Copy)]
-pub struct Located {
-    pub word: usize,
-    pub bit: u64,
-}
-
 // A visit's step: kind 0 with a bit and the word without it, or 1 where no bit is left.
 #[repr(C)]
 #[derive(Clone, Copy)]
@@ -56,6 +48,26 @@ pub struct Span {
     pub kind: usize,
     pub start: usize,
     pub length: usize,
+}
+
+// A start and a length, where there are words.
+impl From<Option<(usize, usize)>> for Span {
+    ghost from_gives = { λ place told. told ≡ span_answer place };
+
+    fn from(place: Option<(usize, usize)>) -> Span {
+        match place {
+            Some((start, length)) => Span {
+                kind: 0,
+                start,
+                length,
+            },
+            None => Span {
+                kind: 2,
+                start: 0,
+                length: 0,
+            },
+        }
+    }
 }
 
 // A number, an atom, a row's number, and a yes or no: each an answer with its value.
@@ -145,14 +157,10 @@ fn number(check: Result<(), Refusal>) -> usize
     }
 }
 
-pub fn worzubil_locate(atom: usize) -> Located
-    ensures { result ≡ located_answer (place_of atom) }
+pub fn worzubil_locate(atom: usize) -> words::Place
+    ensures { result ≡ place_of atom }
 {
-    let place = words::locate(atom);
-    Located {
-        word: place.word,
-        bit: place.bit,
-    }
+    words::locate(atom)
 }
 
 pub fn worzubil_popcount(word: u64) -> u32
@@ -261,18 +269,8 @@ pub fn worzubil_row(rows: &[u64], width: usize, number: usize) -> Span
     ensures place { result ≡ span_of width rows.now (row_number number) }
     ensures words { take result.length (drop result.start rows.now) ≡ unwrap_or (row_of width rows.now (row_number number)) [] }
 {
-    match rows::row(rows, width, rows::Source(number)) {
-        Some(words) => Span {
-            kind: 0,
-            start: number * width,
-            length: words.len(),
-        },
-        None => Span {
-            kind: 2,
-            start: 0,
-            length: 0,
-        },
-    }
+    let words = rows::row(rows, width, rows::Source(number));
+    Span::from(words.map(|words| (number * width, words.len())))
 }
 
 pub fn worzubil_lowest_atom(rows: &[u64], width: usize, number: usize) -> Answer

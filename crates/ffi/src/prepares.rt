@@ -71,21 +71,9 @@ pub fn worzubil_column(index: &[u64], n: usize, rank: usize, atom: usize) -> Spa
     ensures place { result ≡ column_span_of index.now n rank (atom_number atom) }
     ensures words { take result.length (drop result.start index.now) ≡ wanted_column index.now n rank (atom_number atom) }
 {
-    match index::check_column(index, n, rank, Atom(atom)) {
-        Ok(()) => {
-            let length = index::column_width(rank);
-            Span {
-                kind: 0,
-                start: atom * length,
-                length,
-            }
-        }
-        Err(_) => Span {
-            kind: 2,
-            start: 0,
-            length: 0,
-        },
-    }
+    let length = index::column_width(rank);
+    let fit = index::check_column(index, n, rank, Atom(atom)).ok();
+    Span::from(fit.map(|()| (atom * length, length)))
 }
 
 pub fn worzubil_column_number(index: &[u64], n: usize, rank: usize, atom: usize) -> usize

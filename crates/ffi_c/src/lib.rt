@@ -9,9 +9,9 @@ ghost use Rattle.words.specs.Set.{set_of, has};
 ghost use Rattle.words.specs.Calls.{place_of, next_of, inserted, merged, subset_of, parity_of, count_of, intersection_of, first_of};
 ghost use Rattle.rows.specs.Flat.{width_of};
 ghost use Rattle.rows.specs.Calls.{source_of, row_of, lowest_of, overlap_parity_of, overlap_count_of, addable, added_words, added_constants};
-ghost use Rattle.ffi.specs.Answers.{set_bits, row_number, basis_place, located_answer, next_answer, found_answer, counted_answer, verdict_answer, entry_answer, lowest_answer, parity_answer, overlap_answer, span_of};
+ghost use Rattle.ffi.specs.Answers.{set_bits, row_number, basis_place, next_answer, found_answer, counted_answer, verdict_answer, entry_answer, lowest_answer, parity_answer, overlap_answer, span_of};
 
-use ffi::{Answer, Located, Span, Step};
+use ffi::{Answer, Span, Step};
 
 pub mod files;
 pub mod hulls;
@@ -20,8 +20,8 @@ pub mod prepares;
 pub mod probes;
 
 #[unsafe(no_mangle)]
-pub extern "C" fn worzubil_locate(atom: usize) -> Located
-    ensures { result ≡ located_answer (place_of atom) }
+pub extern "C" fn worzubil_locate(atom: usize) -> words::Place
+    ensures { result ≡ place_of atom }
 {
     ffi::worzubil_locate(atom)
 }

@@ -6,14 +6,7 @@ use native.Mathlib.Omega.{arith}
 use borrow.Author.Tests.{eqb-true, eqb-false}
 use lib.Arith.{lt_of_le-ne}
 use lib.Dec.{eqb}
-
-pub or_none : (a b : Bool) → (a || b) ≡ false → (a ≡ false) × (b ≡ false)
-or_none true b e = absurd (true≢false e)
-or_none false b e = (refl, e)
-
-pub or_right : (a b : Bool) → b ≡ true → (a || b) ≡ true
-or_right true b e = refl
-or_right false b e = e
+use Rattle.std.proofs.lemmas.Bool.{or_right}
 
 module _ (any one : ℕ → Bool) (start : any 0 ≡ false) (more : (m : ℕ) → any (suc m) ≡ (any m || one m)) where
   pub any_found : (m r : ℕ) → r < m → one r ≡ true → any m ≡ true

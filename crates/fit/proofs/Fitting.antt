@@ -2,7 +2,7 @@
 use Prim.Native.Nat.{ℕ, suc, ◌+◌, ◌*◌, ◌^◌, ◌≤◌, ◌<◌}
 use mathlib.Core.Path.{◌≡◌, refl, ap, ap₂, ◌∙◌}
 use mathlib.Core.List.{List, [], ◌∷◌}
-use mathlib.Core.Bool.{Bool, true, false, cond, ◌||◌, or-false, true≢false}
+use mathlib.Core.Bool.{Bool, true, false, cond, ◌||◌, or-false}
 use Rattle.std.specs.Prelude.{Result, Ok, Err}
 use native.Mathlib.Numerals.{add-one}
 use native.Mathlib.Omega.{arith}
@@ -15,7 +15,8 @@ use Rattle.refusal.specs.Refusal.{checked}
 use Rattle.refusal.specs.declared.Refusal.{Refusal}
 use Rattle.refusal.specs.declared.Refusal.TheVariants.{Short, Overfull, Stray}
 use Rattle.fit.specs.Rows.{overfull, short, strays, rows_check}
-use Rattle.fit.proofs.Among.{or_none, any_each, any_none}
+use Rattle.std.proofs.lemmas.Bool.{or_parts}
+use Rattle.fit.proofs.Among.{any_each, any_none}
 
 pub record Fit (n m : ℕ) (ws cs : List ℕ) : Type 0 where
   pub atoms : n ≤ 512
@@ -48,7 +49,7 @@ module _ (n w : ℕ) (ws cs : List ℕ) where
       (λ r h. ap₂ ◌||◌ (lt-leb (2 ^ n) _ (clean r h).0) (le-ltb 1 (get_or cs r 0) (omega (arith, (clean r h).1))))
 
   row_clean : (m : ℕ) → strays n w ws cs m ≡ false → (r : ℕ) → r < m → (leb (2 ^ n) (set_of (row w ws r)) ≡ false) × (ltb 1 (get_or cs r 0) ≡ false)
-  row_clean m none r h = or_none _ _ (any_each (strays n w ws cs) row_strays strays_start strays_more m none r h)
+  row_clean m none r h = or_parts _ _ (any_each (strays n w ws cs) row_strays strays_start strays_more m none r h)
 
 pub fit_of : (n m : ℕ) (ws cs : List ℕ) → strays n (width_of n) ws cs m ≡ false → n ≤ 512 → m ≤ 512 → m * width_of n ≤ length ws → m ≤ length cs → Fit n m ws cs
 fit_of n m ws cs none atoms rows words constants = record {
@@ -74,9 +75,9 @@ module _ (n m : ℕ) (ws cs : List ℕ) (more : Bool) where
   joined_fit e =
       let full = passed (overfull n m) _ _ e in
       let lent = passed (short n m ws cs || more) _ _ full.1 in
-      let limits = or_none (ltb 512 n) (ltb 512 m) full.0 in
-      let room = or_none (short n m ws cs) more lent.0 in
-      let each = or_none (ltb (length ws) (m * width_of n)) (ltb (length cs) m) room.0 in (
+      let limits = or_parts (ltb 512 n) (ltb 512 m) full.0 in
+      let room = or_parts (short n m ws cs) more lent.0 in
+      let each = or_parts (ltb (length ws) (m * width_of n)) (ltb (length cs) m) room.0 in (
         fit_of n m ws cs (passed (strays n (width_of n) ws cs m) _ _ lent.1).0 (ltb-false 512 n limits.0) (ltb-false 512 m limits.1)
             (ltb-false (length ws) (m * width_of n) each.0) (ltb-false (length cs) m each.1),
         room.1,
@@ -97,27 +98,3 @@ fit_joined n m ws cs more fit none =
 pub joined_none : (n m : ℕ) (ws cs : List ℕ) → rows_check n m ws cs ≡ joined n m ws cs false
 unfolding rows_check
 joined_none n m ws cs = simp or-false refl
-
--- rows that pass, within the limits or not
-pub rows_passed : (n m : ℕ) (ws cs : List ℕ) → rows_check n m ws cs ≡ Ok tt
-    → (overfull n m ≡ false) × (short n m ws cs ≡ false) × (strays n (width_of n) ws cs m ≡ false)
-unfolding rows_check
-rows_passed n m ws cs e =
-    let full = passed (overfull n m) _ _ e in
-    let room = passed (short n m ws cs) _ _ full.1 in
-    (full.0, room.0, (passed (strays n (width_of n) ws cs m) _ _ room.1).0)
-
--- rows that do not pass, beside more that does: `stray` and the checks after it are those of a caller
-pub rows_failed : (n m : ℕ) (ws cs : List ℕ) (more stray : Bool) (after : Result Unit Refusal) (refusal : Refusal) → overfull n m ≡ false → more ≡ false
-    → rows_check n m ws cs ≡ Err refusal
-    → cond (short n m ws cs || more) (Err Short) (cond (strays n (width_of n) ws cs m || stray) (Err Stray) after) ≡ Err refusal
-unfolding rows_check
-rows_failed n m ws cs more stray after refusal full fits e =
-    go (overfull n m) (short n m ws cs) (strays n (width_of n) ws cs m) full e
-  where
-    go : (o s t : Bool) → o ≡ false → cond o (Err Overfull) (cond s (Err Short) (cond t (Err Stray) (Ok (tt {0})))) ≡ Err refusal
-        → cond (s || more) (Err Short) (cond (t || stray) (Err Stray) after) ≡ Err refusal
-    go true s t o p = absurd (true≢false o)
-    go false true t o p = p
-    go false false true o p = ap (λ (b : Bool). cond {A = Result Unit Refusal} b (Err Short) (Err Stray)) fits ∙ p
-    go false false false o p = cc

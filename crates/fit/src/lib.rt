@@ -12,7 +12,9 @@ use rows::Source;
 // The most atoms, and the most rows.
 pub const LIMIT: usize = 512;
 
-// Whether a row has an atom from n on: only its last word can.
+// Whether a row has an atom from n on: only its last word can. (`index` asks the same of columns, which are filled up to 128 bits: two words to look
+// at, and with the unit as a parameter the test is longer than both. That the row lies within is asked here, and wherever one is read by its
+// number: a view of it would be made for each row of loops that look at one word.)
 fn row_strays(rows: &[u64], n: usize, width: usize, number: Source) -> bool
     requires { (width ≡ width_of n) × (number.0 * width + width ≤ length rows.now) }
     ensures { result ≡ leb (2 ^ n) (set_of (row width rows.now number.0)) }
@@ -26,7 +28,7 @@ fn row_strays(rows: &[u64], n: usize, width: usize, number: Source) -> bool
 }
 
 // Whether one of the first m rows has an atom from n on, or a constant above 1. The loop has no early exit, so that the
-// compiled code can read many rows at once.
+// compiled code can read many rows at once. (By number: rows of no words are no chunks.)
 #[tactic(auto, using(crate::proofs::Fitting::strays_start, crate::proofs::Fitting::strays_step))]
 fn any_strays(rows: &[u64], constants: &[u8], n: usize, width: usize, m: usize) -> bool
     requires { (width ≡ width_of n) × (m * width ≤ length rows.now) × (m ≤ length constants.now) }

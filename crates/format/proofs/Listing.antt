@@ -9,7 +9,7 @@ use lib.ListN.{length, set, take}
 use lib.Seq.{take-suc-set}
 use Rattle.format.specs.Bytes.{list_from}
 
-module _ (number : ℕ → ℕ) where
+module _ {A : Type 0} (number : ℕ → A) where
   pub list_length : (i c : ℕ) → length (list_from number i c) ≡ c
   unfolding list_from
   list_length i zero = refl
@@ -25,11 +25,11 @@ module _ (number : ℕ → ℕ) where
   unfolding list_from
   list_last i zero = ap (λ (j : ℕ). number j ∷ []) (sym (add-zero i))
   list_last i (suc c) =
-      ap (λ (l : List ℕ). number i ∷ l) (list_last (suc i) c ∙ ap (λ (j : ℕ). list_from number (suc i) c ++ (number j ∷ [])) (suc-add i c ∙ sym (add-suc i c)))
+      ap (λ (l : List A). number i ∷ l) (list_last (suc i) c ∙ ap (λ (j : ℕ). list_from number (suc i) c ++ (number j ∷ [])) (suc-add i c ∙ sym (add-suc i c)))
 
   -- lent places filled one after another: the first i hold the list
-  pub fill_next : (l : List ℕ) (i v : ℕ) → i < length l → take i l ≡ list_from number 0 i → v ≡ number i
+  pub fill_next : (l : List A) (i : ℕ) (v : A) → i < length l → take i l ≡ list_from number 0 i → v ≡ number i
       → take (i + 1) (set l i v) ≡ list_from number 0 (i + 1)
   fill_next l i v h e is =
-      ap (λ (j : ℕ). take j (set l i v)) (add-one i) ∙ take-suc-set l i v h ∙ ap₂ (λ (t : List ℕ) (x : ℕ). t ++ (x ∷ [])) e (is ∙ ap number (sym (zero-add i)))
+      ap (λ (j : ℕ). take j (set l i v)) (add-one i) ∙ take-suc-set l i v h ∙ ap₂ (λ (t : List A) (x : A). t ++ (x ∷ [])) e (is ∙ ap number (sym (zero-add i)))
       ∙ sym (ap (list_from number 0) (add-one i) ∙ list_last 0 i)

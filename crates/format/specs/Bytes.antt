@@ -13,6 +13,6 @@ unfoldable pub word_at : List ℕ → ℕ → ℕ
 word_at file i = short_at file i + short_at file (i + 2) * 2 ^ 16 + short_at file (i + 4) * 2 ^ 32 + short_at file (i + 6) * 2 ^ 48
 
 -- c numbers, the i-th on.
-unfoldable pub list_from : (ℕ → ℕ) → ℕ → ℕ → List ℕ
+unfoldable pub list_from : {A : Type 0} → (ℕ → A) → ℕ → ℕ → List A
 list_from number i zero = []
 list_from number i (suc c) = number i ∷ list_from number (suc i) c

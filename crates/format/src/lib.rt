@@ -2,9 +2,9 @@
 // byte is 0.
 #![tactic(auto)]
 
-ghost use Rattle.std.specs.Prelude.{◌≡◌, ◌+◌, ◌-◌, min, length};
+ghost use Rattle.std.specs.Prelude.{◌≡◌, ℕ, ◌+◌, ◌-◌, ◌<◌, min, length};
 ghost use Rattle.std.specs.Iterator.{at_most};
-ghost use Rattle.hull.specs.Propose.{limit, table_words, proposal_of};
+ghost use Rattle.hull.specs.Propose.{limit, proposal_of};
 ghost use Rattle.format.specs.Bytes.{byte_at, short_at, word_at, list_from};
 ghost use Rattle.format.specs.Kind.{kind_of};
 ghost use Rattle.format.specs.Format.{length_at, kind_at, body_at, next_at, count_at, constant_at, atom_at, atom_count, k_at, table_word_at, table_at, decided_at, value_at};
@@ -13,7 +13,8 @@ ghost use Rattle.format.specs.Starts.{NextRecord};
 use hull::Hull;
 use refusal::Refusal;
 
-// What a record is; document 01 numbers the kinds from 1 in this order.
+// What a record is; document 01 numbers the kinds from 1 in this order. What is done with each stands in a `match` where it is done: the kinds are
+// a closed set, and the check asks for every one.
 #[derive(Clone, Copy, Debug, PartialEq, Eq)]
 pub enum Kind {
     Atoms,
@@ -54,6 +55,8 @@ pub struct Record<'a> {
 }
 
 impl<'a> Record<'a> {
+    // Past the end 0, here and in the three below, and not None: that a record lies in its file is one check (`check_length` of `record`), made
+    // before any of its fields counts, so a None would be a case at every reader and change no answer.
     pub fn byte(self, i: usize) -> u8
         ensures { result ≡ byte_at self.entry.file.now (self.entry.offset + i) }
     {
@@ -160,24 +163,18 @@ impl<'a> Record<'a> {
     }
 
     // Fills the lent places with the record's atoms, as many as there are places.
-    #[tactic(auto, using(crate::proofs::Listing::fill_next), unfolding(crate::specs::Bytes::list_from))]
     pub fn read_atoms(self, atoms: &mut [usize])
         ensures { atoms.new ≡ list_from (atom_at self.entry.file.now self.entry.offset) 0 (length atoms.old) }
     {
-        for (i, atom) in atoms.iter_mut().enumerate() {
-            *atom = usize::from(self.atom(i));
-        }
+        fill(atoms, |i| usize::from(self.atom(i)));
     }
 
     // Fills the lent places with a table's words, as many as there are places.
-    #[tactic(auto, using(crate::proofs::Listing::fill_next), unfolding(crate::specs::Bytes::list_from))]
     pub fn read_words(self, words: &mut [u64])
         ensures { words.new ≡ list_from (table_word_at self.entry.file.now self.entry.offset) 0 (length words.old) }
     {
         let start = 5 + usize::from(self.k()) * 2;
-        for (j, word) in words.iter_mut().enumerate() {
-            *word = self.word(start + j * 8);
-        }
+        fill(words, |j| self.word(start + j * 8));
     }
 
     // What `propose` says of a table.
@@ -186,7 +183,7 @@ impl<'a> Record<'a> {
     {
         let mut words = [0u64; 4];
         let k = usize::from(self.k());
-        let forbidden = &mut words[..table_words(k)];
+        let forbidden = &mut words[..hull::table_words(k)];
         self.read_words(forbidden);
         hull::propose(k, forbidden)
     }
@@ -203,12 +200,15 @@ impl<'a> Record<'a> {
     }
 }
 
-// How many words a table of k atoms has; above the limit as many as at it.
-pub fn table_words(k: usize) -> usize
-    ensures { result ≡ table_words (min k limit) }
+// Fills each of the lent places with what `value` says of its number.
+#[tactic(auto, using(crate::proofs::Listing::fill_next), unfolding(crate::specs::Bytes::list_from))]
+fn fill<T: Copy, F: Fn(usize) -> T>(places: &mut [T], value: F)
+    requires { (i : ℕ) → i < length places.old → F.pre value i }
+    ensures { (number : ℕ → T) → ((i : ℕ) → i < length places.old → (v : T) → F.post value i v → v ≡ number i) → places.new ≡ list_from number 0 (length places.old) }
 {
-    let patterns: usize = 1 << k.min(8);
-    patterns.div_ceil(128) * 2
+    for (i, place) in places.iter_mut().enumerate() {
+        *place = value(i);
+    }
 }
 
 // The records of a file, one after another.

@@ -1,4 +1,4 @@
--- The equations as `list` files them: those found so far, then blanks.
+-- The equations as `equations` files them: those found so far, then blanks.
 use Prim.Native.Nat.{ℕ, ◌+◌, ◌-◌, ◌^◌, ◌≤◌, ◌<◌}
 use mathlib.Core.Path.{◌≡◌, refl, sym, ap, ap₂, ◌∙◌}
 use mathlib.Core.List.{List, [], ◌∷◌, ◌++◌, append-nil}

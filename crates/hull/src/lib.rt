@@ -1,19 +1,22 @@
 // The equations of a table: a port of hull.rs. The smallest affine set that holds the patterns which a table allows, as equations.
-// Every call is total; specs/Propose.antt has its answer, specs/Steps.antt what the private functions do on the way to it.
+// (k and the table's words are passed one by one, as C lends them.) Every call is total; specs/Propose.antt has its answer, specs/Steps.antt what the private functions do on the way to it.
 #![tactic(auto)]
 
-ghost use Rattle.std.specs.Prelude.{◌≡◌, ℕ, ◌^◌, ◌-◌, ◌*◌, ◌/◌, ◌≤◌, ◌<◌, true, false, [], length, replicate, not, count_by, MatchOption};
+ghost use Rattle.std.specs.Prelude.{◌≡◌, ℕ, ◌^◌, ◌-◌, ◌*◌, ◌/◌, ◌≤◌, ◌<◌, true, false, [], min, length, replicate, not, count_by, MatchOption};
 ghost use Rattle.std.specs.Int.Count.{ones};
 ghost use Rattle.std.specs.List.{range_with_len};
 ghost use Rattle.words.specs.Set.{odd};
 ghost use Rattle.hull.specs.Table.{forbids, allowed};
 ghost use Rattle.hull.specs.Equations.{hull_from};
-ghost use Rattle.hull.specs.Propose.{limit, told, proposal_of};
+ghost use Rattle.hull.specs.Propose.{limit, table_words, told, proposal_of};
 ghost use Rattle.hull.specs.Steps.{entered, seen, found, reach, listing};
 
 use refusal::Refusal;
 
 pub mod promises;
+
+// The most atoms that a table names.
+pub const LIMIT: usize = 8;
 
 // One equation of a table: the atoms named whose bit is set add up to the constant.
 #[repr(C)]
@@ -29,7 +32,8 @@ const BLANK: LocalEquation = LocalEquation {
     constant: false,
 };
 
-// The equations of a table, and whether the allowed patterns are just those that meet them. Places from `count` on hold 0.
+// The equations of a table, and whether the allowed patterns are just those that meet them. Places from `count` on hold 0: C reads a fixed
+// array with its count.
 #[repr(C)]
 #[derive(Clone, Copy)]
 pub struct Hull {
@@ -38,7 +42,9 @@ pub struct Hull {
     pub exact: bool,
 }
 
-// The anchor, the least-bit echelon of the differences from it, and how many patterns were allowed.
+// The anchor, the least-bit echelon of the differences from it, and how many patterns were allowed. A pivot of 0 is none: what enters is not 0, and
+// a reduction adds it as it is. (k is passed beside it: as a field with its bound, the definitions that make a basis of any k would have the bound in
+// them.)
 #[derive(Clone, Copy)]
 struct Basis {
     anchor: u8,
@@ -47,7 +53,7 @@ struct Basis {
     allowed: usize,
 }
 
-// Whether an odd number of bits is set.
+// Whether an odd number of bits is set. (A named expression: no trait says it.)
 fn is_odd(bits: u8) -> bool
     ensures { result ≡ odd (ones bits) }
 {
@@ -74,7 +80,8 @@ fn enter(pivots: &mut [u8], difference: u8) -> bool
     false
 }
 
-// The equation of a place without a pivot: its bit, and those of lower pivots that make every overlap even. Higher ones have none.
+// The equation of a place without a pivot: its bit, and those of lower pivots that make every overlap even. Higher ones have none. (The place
+// is the shift too: a range says it sooner than `enumerate` with `rev`.)
 fn equation(pivots: &[u8; 8], free: usize) -> u8
     requires { free < limit }
     ensures { result ≡ reach pivots.now free (2 ^ free) }
@@ -117,8 +124,8 @@ impl Basis {
     {
         let mut equations = [BLANK; 8];
         let mut count = 0;
-        for free in 0..k {
-            if self.pivots[free] == 0 {
+        for (free, pivot) in self.pivots[..k].iter().enumerate() {
+            if *pivot == 0 {
                 let coefficients = equation(&self.pivots, free);
                 equations[count] = LocalEquation {
                     coefficients,
@@ -164,7 +171,7 @@ fn count_allowed(forbidden: &[u64], first: usize, patterns: usize) -> usize
         .count()
 }
 
-// The span of the differences, where a pattern is allowed. Full rank settles it, but not whether every pattern is allowed: the
+// The span of the differences, where a pattern is allowed. (Patterns are numbers, whose bits the table has.) Full rank settles it, but not whether every pattern is allowed: the
 // others are still counted.
 fn span(k: usize, forbidden: &[u64]) -> Option<Basis>
     requires atoms { k ≤ limit }
@@ -199,15 +206,19 @@ fn impossible() -> Hull
     }
 }
 
+// How many words a table of k atoms has; above the limit as many as at it.
+pub fn table_words(k: usize) -> usize
+    ensures { result ≡ table_words (min k limit) }
+{
+    let patterns: usize = 1 << k.min(LIMIT);
+    patterns.div_ceil(128) * 2
+}
+
 // The equations of the table of k atoms that forbids the patterns whose bits are set.
 pub fn propose(k: usize, forbidden: &[u64]) -> Result<Hull, Refusal>
     ensures { result ≡ proposal_of limit k forbidden.now }
 {
-    if k > 8 {
-        return Err(Refusal::Table);
-    }
-    let patterns: usize = 1 << k;
-    if forbidden.len() != (patterns + 127) / 128 * 2 {
+    if k > LIMIT || forbidden.len() != table_words(k) {
         return Err(Refusal::Table);
     }
     let hull = match span(k, forbidden) {

@@ -2,6 +2,7 @@
 ghost use Rattle.hull.specs.Promises.{SmallestAffine, EverySum, ExactIsSet, ExactIsCount, FreeEquations, TablePivots};
 
 // "the equations are met by just the smallest affine set that holds the allowed patterns"
+#[tactic(auto, using(crate::proofs::Smallest::smallest_affine))]
 pub fn smallest_affine()
     ensures { SmallestAffine }
 {}
@@ -12,11 +13,13 @@ pub fn every_sum()
 {}
 
 // "exact" is a promise about the patterns, not the count alone.
+#[tactic(auto, using(crate::proofs::Exact::exact_is_set))]
 pub fn exact_is_set()
     ensures { ExactIsSet }
 {}
 
 // "Exact means allowed patterns = 2^rank, all 2^k patterns counted."
+#[tactic(auto, using(crate::proofs::Exact::exact_is_count))]
 pub fn exact_is_count()
     ensures { ExactIsCount }
 {}

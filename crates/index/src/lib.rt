@@ -1,5 +1,5 @@
-// The index: which basis rows have an atom. An atom's column as a part of the lent index, and beside it the number under which it is
-// refused.
+// The index: which basis rows have an atom. An atom's column as a part of the lent index, and whether it is refused. Index, n and rank are
+// passed one by one, as C lends them.
 #![tactic(auto)]
 
 ghost use Rattle.std.specs.Prelude.{◌≡◌, ◌+◌, ◌*◌, ◌^◌, ◌≤◌, length, leb};
@@ -28,7 +28,7 @@ pub fn column_at(index: &[u64], width: usize, atom: Atom) -> Option<&[u64]>
     rows::part(index, width, atom.0)
 }
 
-// Whether a column has a bit from the rank on: only its last two words can.
+// Whether a column has a bit from the rank on: only its last two words can. (`fit` asks the same of rows, which have but a last one.)
 fn overranks(index: &[u64], rank: usize, width: usize, atom: Atom) -> bool
     requires { (width ≡ column_width rank) × (atom.0 * width + width ≤ length index.now) }
     ensures { result ≡ leb (2 ^ rank) (set_of (row width index.now atom.0)) }
@@ -47,7 +47,8 @@ fn overranks(index: &[u64], rank: usize, width: usize, atom: Atom) -> bool
     index[last - 1] >> used != 0
 }
 
-// Whether one of the first n columns has a bit from the rank on. The loop has no early exit, as in `fit::any_strays`.
+// Whether one of the first n columns has a bit from the rank on: the loop of `fit::any_strays`, over another test and without constants. (By number:
+// columns of no words are no chunks.)
 #[tactic(auto, using(crate::proofs::Overrank::over_start, crate::proofs::Overrank::over_step))]
 fn any_overranks(index: &[u64], rank: usize, width: usize, n: usize) -> bool
     requires { (width ≡ column_width rank) × (n * width ≤ length index.now) }
@@ -81,7 +82,8 @@ pub fn check_column(index: &[u64], n: usize, rank: usize, atom: Atom) -> Result<
     Ok(())
 }
 
-// "The column of an atom is given back as that part of the lent index"; refused, it is the index's first 0 words.
+// "The column of an atom is given back as that part of the lent index"; refused, it is the index's first 0 words, and no Option: a call that could
+// not fail still can't, and `check_column` says why.
 #[tactic(auto, using(crate::proofs::Wanted::wanted_part), unfolding(crate::specs::Column::wanted_column))]
 pub fn column(index: &[u64], n: usize, rank: usize, atom: Atom) -> &[u64]
     ensures { result.now ≡ wanted_column index.now n rank atom }

@@ -10,6 +10,7 @@ use native.Mathlib.Omega.{arith}
 use lib.ListN.{length, get_or, set, drop}
 use lib.Dec.{eqb}
 use lib.Pow.{pow_pos}
+use Rattle.rows.proofs.Constants.{bool_back}
 use Rattle.words.specs.Set.{set_of, has}
 use Rattle.words.specs.Calls.{inserted}
 use Rattle.rows.specs.Decisions.{Decisions}
@@ -18,14 +19,12 @@ use Rattle.rows.specs.declared.Atom.{Atom}
 use Rattle.echelon.proofs.Written.{unpack_length}
 use Rattle.region.specs.Masks.{decisions, is_held, is_cut, region_of}
 use Rattle.region.specs.Calls.{decided}
-use Rattle.std.specs.Prelude.{Result, Ok}
-use Rattle.refusal.specs.Refusal.{given_or}
+use Rattle.std.specs.Prelude.{Result}
 use Rattle.refusal.specs.declared.Refusal.{Refusal}
 use Rattle.region.specs.declared.Answer.{Answer}
-use Rattle.region.specs.declared.Answer.TheVariants.{Same}
 use Rattle.region.specs.declared.Region.{Region}
-use Rattle.region.proofs.Masked.{Eight, decide_fits, decisions_length, fitting, held_has, cut_has}
-use Rattle.region.proofs.Deciding.{mask_at, taking, taken, settled_known}
+use Rattle.region.proofs.Masked.{Eight, decide_fits, decide_known, decisions_length, fitting, held_has, cut_has}
+use Rattle.region.proofs.Deciding.{said, mask_at, taking, taken}
 use Rattle.inspect.specs.Batch.{Batch, begun, forced_on, next, applied}
 use Rattle.inspect.specs.Inspect.{atoms_from, values_from}
 use Rattle.inspect.specs.Steps.{forced_in, Applicable, applied_of, tallied, Forcible, Forcing}
@@ -90,14 +89,10 @@ pub forced_back : (fs : List (ℕ × Bool)) (us vs : List ℕ) → forced_in (at
 unfolding zip_with
 forced_back fs us vs = go fs (drop (length fs) us) (drop (length fs) vs)
   where
-    value : (v : Bool) → eqb (cond v 1 0) 1 ≡ v
-    value true = refl
-    value false = refl
-
     go : (fs : List (ℕ × Bool)) (x y : List ℕ)
         → forced_in (map (λ (f : ℕ × Bool). f.0) fs ++ x) (map (λ (f : ℕ × Bool). cond f.1 1 0) fs ++ y) (length fs) ≡ fs
     go [] x y = refl
-    go (f ∷ fs) x y = ap₂ ◌∷◌ (ap (λ (v : Bool). (f.0, v)) (value f.1)) (go fs x y)
+    go (f ∷ fs) x y = ap₂ ◌∷◌ (ap (λ (v : Bool). (f.0, v)) (bool_back f.1)) (go fs x y)
 
 -- ---- one atom forced in the masks
 
@@ -149,9 +144,9 @@ module _ (a : Atom) (v : Bool) (n : ℕ) (b : Batch) (can : Forcible b a.0) wher
   -- an open atom's bit set in the mask of its value
   taking_is : was ≡ none → taking v (region_of b.decisions) a.0 ≡ region_of (set b.decisions a.0 (some v))
   taking_is e =
-      ap (λ (q : Result (Answer × Region) Refusal). (given_or q (Same, region_of b.decisions)).1)
+      ap (λ (q : Result Answer Refusal × Region). q.1)
       (taken (region_of b.decisions) a (decide_fits b.decisions can.few a can.below) (eight_words b.decisions) v (without v) (without (not v))
-      ∙ settled_known v b.decisions can.few a can.below ∙ ap (λ (d : Option Bool). Ok (decided b.decisions a.0 v d)) e)
+      ∙ decide_known v b.decisions can.few a can.below ∙ ap (λ (d : Option Bool). let made = decided b.decisions a.0 v d in said made.1 made.0) e)
     where
       without : (w : Bool) → has (set_of (mask_at w (region_of b.decisions))) a.0 ≡ false
       without true = held_has b.decisions can.few a.0 ∙ ap is_held e

@@ -9,7 +9,7 @@ use lib.Dec.{ltb, eqb}
 use Rattle.std.specs.Prelude.{Ok}
 use Rattle.rows.specs.Flat.{width_of}
 use Rattle.fit.specs.Rows.{overfull, short, strays, misnames}
-use Rattle.fit.proofs.Among.{or_none}
+use Rattle.std.proofs.lemmas.Bool.{or_parts}
 use Rattle.fit.proofs.Fitting.{Fit, fit_of, strays_none, passed}
 use Rattle.fit.proofs.Naming.{names_each, names_none}
 use Rattle.index.specs.Index.{column_width}
@@ -55,16 +55,16 @@ module _ (s : System) (l : Filled) (r : Region) (known : Snapshot) (atoms values
       let over = passed (not s.refuted && over_rank s.rank (column_width s.rank) l.index s.atoms) _ _ name.1 in
       let counts = passed (unequal s r known) _ _ over.1 in
       let old = passed (missing r known) _ _ counts.1 in
-      let limits = or_none (overfull s.atoms s.rows) _ full.0 in
-      let system = or_none (ltb 512 s.atoms) (ltb 512 s.rows) limits.0 in
-      let others = or_none (ltb 512 r.atoms) _ limits.1 in
-      let room = or_none (short s.atoms s.rows l.rows l.constants) _ nine.0 in
-      let rows = or_none (ltb (length l.rows) (s.rows * width_of s.atoms)) _ room.0 in
-      let basis = or_none (ltb (length l.basis) (min s.rows s.atoms)) _ room.1 in
-      let index = or_none (ltb (length l.index) (s.atoms * column_width s.rank)) _ basis.1 in
-      let lists = or_none (ltb atoms s.rank) _ index.1 in
-      let strange = or_none (strays s.atoms (width_of s.atoms) l.rows l.constants s.rows) (strayed r) stray.0 in
-      let count = or_none (not (eqb r.atoms s.atoms)) _ counts.0 in
+      let limits = or_parts (overfull s.atoms s.rows) _ full.0 in
+      let system = or_parts (ltb 512 s.atoms) (ltb 512 s.rows) limits.0 in
+      let others = or_parts (ltb 512 r.atoms) _ limits.1 in
+      let room = or_parts (short s.atoms s.rows l.rows l.constants) _ nine.0 in
+      let rows = or_parts (ltb (length l.rows) (s.rows * width_of s.atoms)) _ room.0 in
+      let basis = or_parts (ltb (length l.basis) (min s.rows s.atoms)) _ room.1 in
+      let index = or_parts (ltb (length l.index) (s.atoms * column_width s.rank)) _ basis.1 in
+      let lists = or_parts (ltb atoms s.rank) _ index.1 in
+      let strange = or_parts (strays s.atoms (width_of s.atoms) l.rows l.constants s.rows) (strayed r) stray.0 in
+      let count = or_parts (not (eqb r.atoms s.atoms)) _ counts.0 in
       record {
         lent =
             fit_of s.atoms s.rows l.rows l.constants strange.0 (ltb-false 512 s.atoms system.0) (ltb-false 512 s.rows system.1)
@@ -90,7 +90,7 @@ module _ (s : System) (l : Filled) (r : Region) (known : Snapshot) (atoms values
       let clash = passed (clashes r) _ _ stray.1 in
       let few = f.lent.atoms in
       let old : (known.initialized && ltb 512 known.atoms) ≡ false =
-      under_back _ _ (λ set. le-ltb 512 known.atoms (omega (arith, f.known_atoms set, f.same_atoms))) in
+      under_back _ _ (λ (set : known.initialized ≡ true). le-ltb 512 known.atoms (omega (arith, f.known_atoms set, f.same_atoms))) in
       let strange = strays_none s.atoms (width_of s.atoms) l.rows l.constants s.rows (λ j h. (f.lent.clean j h, f.lent.small j h)) in
       simp (
         le-ltb 512 s.atoms few,

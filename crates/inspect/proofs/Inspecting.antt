@@ -116,10 +116,6 @@ gathered_by s l r known atoms values touched collected atoms' values' is few =
     ∙ chosen_atoms s.rank (touched_of s.rank l.index r known) (touched_length s.rank l.index r known) few)
 
 -- a fit region is published
-pub taken : (known : Snapshot) (r : Region) → region_check r ≡ Ok tt → (publish_of known r).0 ≡ Ok tt
-unfolding publish_of
-taken known r fit = fit
-
 pub publishes : (known : Snapshot) (r : Region) → region_check r ≡ Ok tt → (publish_of known r).1 ≡ published r
 unfolding publish_of
 publishes known r fit = ap (λ check. left check (published r) known) fit

@@ -1,5 +1,5 @@
 -- What an inspection leaves, and so the promises: region and knowledge stand, or the region gains what follows and was published as it came.
-use Prim.Native.Nat.{ℕ, zero, suc, ◌+◌}
+use Prim.Native.Nat.{ℕ, ◌+◌}
 use mathlib.Core.Path.{◌≡◌, refl, sym, ap, subst, ◌∙◌}
 use mathlib.Core.List.{List}
 use mathlib.Core.Bool.{Bool, true, false, ◌&&◌, true≢false}
@@ -10,7 +10,7 @@ use lib.Dec.{eqb}
 use Rattle.rows.specs.Row.{Assignment, meets_all}
 use Rattle.rows.specs.Decisions.{Decisions, agrees}
 use Rattle.std.specs.Prelude.{Result, Ok, Err}
-use Rattle.refusal.specs.Refusal.{answered, left}
+use Rattle.refusal.specs.Refusal.{answered}
 use Rattle.refusal.specs.declared.Refusal.{Refusal}
 use Rattle.parity.specs.Basis.{basis_of}
 use Rattle.parity.specs.Prepare.{Lent, prepare_check, prepared}
@@ -24,7 +24,7 @@ use Rattle.region.proofs.Masked.{decisions_length, decisions_back}
 use Rattle.snapshot.specs.Knowledge.{published}
 use Rattle.snapshot.specs.declared.Snapshot.{Snapshot}
 use Rattle.inspect.specs.Batch.{Batch, begun, applied}
-use Rattle.inspect.specs.Inspect.{is_refuted, refutes, region_in, known_in, Filled, Outcome, outcome, inspect_check, answer_of, found, inspected, inspect_of}
+use Rattle.inspect.specs.Inspect.{is_refuted, refutes, region_in, known_in, Filled, Outcome, inspect_check, answer_of, found, inspected, inspect_of}
 use Rattle.inspect.specs.Promises.{basis_in, filled_by, ForcedFollow, RefutedNone, PreparedRefuted, RegionGains}
 use Rattle.inspect.specs.declared.Inspected.{Inspected}
 use Rattle.inspect.specs.declared.Step.{Step}

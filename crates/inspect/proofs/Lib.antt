@@ -1,5 +1,6 @@
 -- The laws behind the promises and the contracts of this crate.
 pub mod Fits
+pub mod Lent
 pub mod Overlaps
 pub mod Readings
 pub mod Visits

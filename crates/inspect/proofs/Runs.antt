@@ -1,29 +1,30 @@
 -- What any list of calls leads to: a region that only gained decisions, and knowledge that is fresh or an earlier region of the same run.
-use Prim.Native.Nat.{ℕ, zero, suc, ◌+◌, ◌≤◌, ◌<◌}
+use Prim.Native.Nat.{ℕ, ◌≤◌, ◌<◌}
 use mathlib.Core.Path.{◌≡◌, refl, sym, ap, ap₂, ◌∙◌, subst}
 use mathlib.Core.List.{List, [], ◌∷◌, ◌++◌}
-use mathlib.Core.Bool.{Bool, true, false, cond, not, ◌&&◌, beq, false≢true}
+use mathlib.Core.Bool.{Bool, true, false, not, ◌&&◌, false≢true}
 use mathlib.Core.Option.{Option, none, some}
 use native.Mathlib.Omega.{arith}
 use borrow.Author.Tests.{ltb-true, ltb-false}
 use lib.ListN.{length, get_or, replicate, length-replicate}
-use lib.Dec.{ltb, eqb}
+use lib.Dec.{ltb}
+use Rattle.std.specs.Result.{result_unwrap_or}
 use Rattle.words.specs.Set.{set_of, subset}
 use Rattle.words.proofs.Meaning.{subset_holds}
 use Rattle.rows.specs.Decisions.{Decisions}
 use Rattle.rows.specs.declared.Atom.{Atom}
-use Rattle.std.specs.Prelude.{Result, Ok, Err}
-use Rattle.refusal.specs.Refusal.{checked, answered, given_or, number_in}
+use Rattle.std.specs.Prelude.{Result, Ok}
+use Rattle.refusal.specs.Refusal.{checked, answered, number_in}
 use Rattle.refusal.specs.declared.Refusal.{Refusal}
 use Rattle.refusal.specs.declared.Refusal.TheVariants.{Overfull}
 use Rattle.fit.proofs.Fitting.{Fit, joined_fit, joined_none}
-use Rattle.parity.specs.Prepare.{Lent, prepare_check, prepared}
+use Rattle.parity.specs.Prepare.{Lent, prepared}
 use Rattle.parity.specs.Promises.{Fits}
 use Rattle.parity.specs.declared.System.{System}
 use Rattle.parity.specs.declared.Prepared.{Prepared}
 use Rattle.parity.proofs.Refit.{prepare_fits}
 use Rattle.region.specs.Masks.{decisions, region_of, is_held, is_cut}
-use Rattle.region.specs.Calls.{region_check, decided, undecided_of, hold_of, cut_of, decide_of}
+use Rattle.region.specs.Calls.{region_check, undecided_of, hold_of, cut_of, decide_of}
 use Rattle.region.specs.Promises.{deciding}
 use Rattle.region.specs.declared.Region.{Region}
 use Rattle.region.specs.declared.Answer.{Answer}
@@ -31,9 +32,8 @@ use Rattle.region.proofs.Masked.{decisions_back, region_fits, held_has, cut_has,
 use Rattle.region.proofs.Standing.{Gains, decide_later}
 use Rattle.snapshot.specs.Knowledge.{fresh, published, missing}
 use Rattle.snapshot.specs.declared.Snapshot.{Snapshot}
-use Rattle.inspect.specs.Batch.{begun, applied}
+use Rattle.inspect.specs.Batch.{begun}
 use Rattle.inspect.specs.Inspect.{Filled, region_in, known_in, found, inspected, inspect_check, inspect_of}
-use Rattle.inspect.specs.declared.Inspected.{Inspected}
 use Rattle.inspect.specs.Run.{Call, hold, cut, inspect, State, begins, step, after}
 use Rattle.inspect.specs.Promises.{filled_by, RegionsFit, KnowledgeAncestor, NeverRefused}
 use Rattle.inspect.proofs.Fits.{fits_checked}
@@ -148,7 +148,7 @@ unfolding undecided_of
 starts n = go (ltb 512 n) refl
   where
     at : Bool → Region
-    at t = given_or (answered (checked ((Overfull, t) ∷ [])) (region_of (replicate n none))) (region_of [])
+    at t = result_unwrap_or (answered (checked ((Overfull, t) ∷ [])) (region_of (replicate n none))) (region_of [])
 
     go : (t : Bool) → ltb 512 n ≡ t → Start n
     go true e = record {

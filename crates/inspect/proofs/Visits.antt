@@ -14,7 +14,8 @@ use Rattle.rows.proofs.Digits.{atoms_has}
 use Rattle.rows.proofs.Rowwise.{atoms_none}
 use Rattle.region.specs.Visit.{Clear}
 use Rattle.inspect.specs.Consequences.{Reading, reading_of, consequences}
-use Rattle.inspect.specs.Steps.{count_noted, atoms_noted, values_noted, reading_at, rows_of, Gathered}
+use Rattle.parity.specs.Basis.{rows_of}
+use Rattle.inspect.specs.Steps.{count_noted, atoms_noted, values_noted, reading_at, Gathered}
 use Rattle.inspect.specs.declared.Forced.{Forced}
 use Rattle.inspect.specs.declared.Fault.{Fault}
 use Rattle.inspect.specs.declared.Masks.{Masks}

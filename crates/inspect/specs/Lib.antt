@@ -1,6 +1,7 @@
 -- What the contracts of `inspect` cite, in the order to read it.
 pub mod Consequences
 pub mod Batch
+pub mod Lent
 pub mod Inspect
 pub mod Run
 pub mod Promises

@@ -1,9 +1,9 @@
 -- Lists of calls over one region and one knowledge, as demand 3 has them: "Hold, cut and the probe take the region, and inspect the region
 -- and the knowledge, as the last call returned or left them."
 use Rattle.std.specs.Prelude.{ℕ, List, [], ◌∷◌}
+use Rattle.std.specs.Result.{result_unwrap_or}
 use Rattle.rows.specs.declared.Atom.{Atom}
 use Rattle.parity.specs.declared.System.{System}
-use Rattle.refusal.specs.Refusal.{given_or}
 use Rattle.region.specs.Masks.{region_of}
 use Rattle.region.specs.Calls.{undecided_of, hold_of, cut_of}
 use Rattle.region.specs.declared.Region.{Region}
@@ -23,7 +23,7 @@ pub record State : Type 0 where
 
 -- "one region that begins undecided and one knowledge that begins fresh". (Above 512 atoms there is no region; the one of no atoms stands for it.)
 abbrev pub begins : ℕ → State
-begins n = record { region = given_or (undecided_of n) (region_of []); known = fresh }
+begins n = record { region = result_unwrap_or (undecided_of n) (region_of []); known = fresh }
 
 -- What a call leaves, refused or not.
 abbrev pub step : State → Call → State

@@ -3,9 +3,7 @@
 use Rattle.std.specs.Prelude.{ℕ, ◌+◌, ◌≤◌, ◌<◌, ◌≡◌, Bool, false, cond, length, get_or, set, take, eqb, Option, Some, None, Result, Ok, Err}
 use mathlib.Core.List.{List, map, zip_with}
 use Rattle.words.specs.Set.{set_of}
-use Rattle.rows.specs.Row.{Row}
 use Rattle.rows.specs.Flat.{width_of, atoms_of, row_at}
-use Rattle.parity.specs.Basis.{basis_of}
 use Rattle.rows.specs.Decisions.{Decisions}
 use Rattle.region.specs.Masks.{is_held, is_open, region_of}
 use Rattle.region.specs.Calls.{region_check}
@@ -43,10 +41,6 @@ abbrev pub reading_at : Basis → Masks → ℕ → Reading
 reading_at b m j =
     reading_of (atoms_of b.atoms (set_of m.held)) (atoms_of b.atoms (set_of m.free))
     (row_at b.atoms (width_of b.atoms) b.rows.now b.constants.now (get_or b.entries.now j 0))
-
--- The rows that the basis names.
-abbrev pub rows_of : Basis → List Row
-rows_of b = basis_of b.atoms b.rows.now b.constants.now (take b.rank b.entries.now)
 
 -- What rows touched say, collected.
 abbrev pub collected_of : Consequences → Result ℕ Contradiction

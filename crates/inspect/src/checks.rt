@@ -1,5 +1,6 @@
 // Whether what `inspect` is asked is fit: document 01's numbers 10, 13 for the rank, 9, 11, 12, 13 for a basis entry, 14, 15, 16.
 ghost use Rattle.std.specs.Prelude.{◌≡◌, ◌≤◌};
+ghost use Rattle.inspect.specs.Lent.{lent_check};
 ghost use Rattle.inspect.specs.Inspect.{filled, lists_short, inspect_check};
 
 use parity::System;
@@ -7,7 +8,7 @@ use refusal::Refusal;
 use region::Region;
 use snapshot::Snapshot;
 
-// Whether basis, index or forced list are too short, by their lengths.
+// Whether basis, index or forced list are too short, by their lengths: not as in `parity`, where the rank is not known yet.
 fn lists_short(system: System, basis: usize, index: usize, atoms: usize, values: usize) -> bool
     requires { (system.atoms ≤ 512) × (system.rank ≤ 512) }
     ensures { result ≡ lists_short system basis index atoms values }
@@ -18,8 +19,27 @@ fn lists_short(system: System, basis: usize, index: usize, atoms: usize, values:
         || values < system.rank
 }
 
-// The checks in their order.
-#[tactic(auto, unfolding(crate::specs::Inspect::inspect_check, fit::specs::Rows::rows_check, region::specs::Calls::region_check))]
+// The rows, the region and the basis entries below the rank, in this order; `probe` checks them so too.
+#[tactic(auto, unfolding(crate::specs::Lent::lent_check, fit::specs::Rows::rows_check, region::specs::Calls::region_check))]
+pub fn check_lent(
+    system: System,
+    rows: &[u64],
+    constants: &[u8],
+    basis: &[usize],
+    region: Region,
+) -> Result<(), Refusal>
+    ensures { result ≡ lent_check system rows.now constants.now basis.now region }
+{
+    fit::check_rows(system.atoms, system.rows, rows, constants)?;
+    region.check()?;
+    if fit::any_misnames(basis, system.rows, system.rank) {
+        return Err(Refusal::Basis);
+    }
+    Ok(())
+}
+
+// The checks in their order. (Of the lists one by one, as `inspect` is lent them: a struct would be made for the checks alone.)
+#[tactic(auto, unfolding(crate::specs::Inspect::inspect_check))]
 pub fn check(
     system: System,
     rows: &[u64],
@@ -42,19 +62,6 @@ pub fn check(
     if lists_short(system, basis.len(), index.len(), atoms, values) {
         return Err(Refusal::Short);
     }
-    fit::check_rows(system.atoms, system.rows, rows, constants)?;
-    region.check()?;
-    if fit::any_misnames(basis, system.rows, system.rank) {
-        return Err(Refusal::Basis);
-    }
-    if snapshot::past_rank(system, index) {
-        return Err(Refusal::Index);
-    }
-    if known.unequal(system, region) {
-        return Err(Refusal::Unequal);
-    }
-    if known.missing(region) {
-        return Err(Refusal::Missing);
-    }
-    Ok(())
+    check_lent(system, rows, constants, basis, region)?;
+    known.check_last(system, index, region)
 }

@@ -2,10 +2,11 @@
 ghost use Rattle.std.specs.Prelude.{◌≡◌, Ok, map, ◌≤◌, ◌<◌, length};
 ghost use Rattle.words.specs.Set.{set_of};
 ghost use Rattle.rows.specs.Flat.{atoms_of};
+ghost use Rattle.parity.specs.Basis.{rows_of};
 ghost use Rattle.inspect.specs.Consequences.{consequences};
 ghost use Rattle.region.specs.Masks.{decisions, is_held, is_open};
 ghost use Rattle.region.specs.Calls.{region_check};
-ghost use Rattle.inspect.specs.Steps.{count_noted, atoms_noted, values_noted, rows_of, Gathered};
+ghost use Rattle.inspect.specs.Steps.{count_noted, atoms_noted, values_noted, Gathered};
 
 use super::says::read;
 use super::{Contradiction, Forced, Masks};
@@ -14,7 +15,8 @@ use region::Region;
 use rows::Ordinal;
 use snapshot::Ordinals;
 
-// Writes what a row forces as entry `at` of the list, and says how long the list is then.
+// Writes what a row forces as entry `at` of the list, and says how long the list is then. (The place is counted: C lends two lists, of atoms
+// and of values.)
 fn note(said: Option<Forced>, atoms: &mut [usize], values: &mut [u8], at: usize) -> usize
     requires { (at < 512) × (at < length atoms.old) × (at < length values.old) }
     ensures count { result ≡ count_noted said at }
@@ -29,7 +31,8 @@ fn note(said: Option<Forced>, atoms: &mut [usize], values: &mut [u8], at: usize)
     at + 1
 }
 
-// Reads the touched rows and collects the forced list, up to a wrong row. (A set of ordinals is a mask as one of atoms is.)
+// Reads the touched rows and collects the forced list, up to a wrong row. (A set of ordinals is a mask as one of atoms is. Basis and masks are no one
+// struct: the one is of what is lent, the other of a region. The lists' room is asked of both functions here, since the caller lends them.)
 fn collect(
     basis: &Basis,
     touched: &[u64; 8],

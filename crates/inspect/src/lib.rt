@@ -2,13 +2,16 @@
 // came, that region is published, and what follows from single rows is then decided in basis order.
 #![tactic(auto)]
 
-ghost use Rattle.std.specs.Prelude.{◌≡◌, Ok};
+ghost use Rattle.std.specs.Prelude.{◌≡◌, ◌-◌, ◌^◌, Ok, replicate};
+ghost use Rattle.std.specs.Int.Bits.{bit_xor};
+ghost use Rattle.words.specs.Calls.{merged};
 ghost use Rattle.region.specs.Masks.{decisions};
 ghost use Rattle.region.specs.Calls.{region_check};
 ghost use Rattle.inspect.specs.Batch.{begun, applied};
 ghost use Rattle.inspect.specs.Inspect.{filled, told_of, outcome, answer_of, ended, inspect_of};
 ghost use Rattle.inspect.specs.Steps.{Masked, Applicable, forced_in};
 
+pub use checks::check_lent;
 use parity::{Basis, System};
 use refusal::Refusal;
 use region::Region;
@@ -40,7 +43,7 @@ struct Contradiction {
     forced: usize,
 }
 
-// The atoms that a region holds, and those that it leaves open.
+// The atoms that a region holds, and those that it leaves open. (Two masks and no list of decisions: a row is met with words.)
 #[derive(Clone, Copy)]
 pub struct Masks {
     pub held: [u64; 8],
@@ -48,9 +51,12 @@ pub struct Masks {
 }
 
 impl Masks {
-    // The open atoms are those that are not held and not cut; atoms from n on are among them, but no row has one.
+    // The open atoms are those that are not held and not cut; atoms from n on are among them, but no row has one. (No From: of a fit region more is
+    // said, by a clause of its own.)
     pub fn of(region: Region) -> Masks
-        ensures { region_check region ≡ Ok tt → Masked region.atoms (decisions region) result.held result.free }
+        ensures held { result.held ≡ region.held }
+        ensures free { result.free ≡ merged bit_xor (merged bit_xor (replicate 8 (2 ^ 64 - 1)) region.held) region.cut }
+        ensures fit { region_check region ≡ Ok tt → Masked region.atoms (decisions region) result.held result.free }
     {
         let mut free = [u64::MAX; 8];
         words::xor_assign(&mut free, &region.held);
@@ -63,7 +69,7 @@ impl Masks {
 }
 
 // A region with forced atoms decided, how many of them as held and as cut, and whether one was decided otherwise: a flag and no Result,
-// since "earlier ones stand" then too.
+// since "earlier ones stand" then too. (Its last three fields are those of `apply`'s `Tally`: as one field, all who read them would go through it.)
 #[derive(Clone, Copy)]
 struct Applied {
     region: Region,
@@ -80,7 +86,8 @@ pub enum Step {
     Refuted,
 }
 
-// What `inspect` answers: how many atoms it decided as held and as cut, the forced list's length, and region and knowledge as they are now.
+// What `inspect` answers: how many atoms it decided as held and as cut, the forced list's length, and region and knowledge as they are now. (Those
+// are two values and no pair: C lends them apart, and other calls take one of them.)
 #[derive(Clone, Copy)]
 pub struct Inspected {
     pub answer: Step,
@@ -105,7 +112,8 @@ fn stands(answer: Step, forced: usize, region: Region, known: Snapshot) -> Inspe
     }
 }
 
-// The answer of a batch, by how many atoms it decided as held and as cut and whether one was decided otherwise.
+// The answer of a batch, by how many atoms it decided as held and as cut and whether one was decided otherwise. (A From would be of an `Applied` that
+// has its region too.)
 fn answer(held: usize, cut: usize, against: bool) -> Step
     ensures { result ≡ answer_of held cut against }
 {
@@ -118,7 +126,7 @@ fn answer(held: usize, cut: usize, against: bool) -> Step
     }
 }
 
-// Publishes the region as it came, and applies the forced list.
+// Publishes the region as it came, and applies the forced list: the first `forced` entries of lists that are lent longer, which `apply` cuts.
 fn conclude(
     region: Region,
     known: Snapshot,
@@ -129,8 +137,7 @@ fn conclude(
     requires { Applicable region forced atoms.now values.now }
     ensures { result ≡ ended (applied (begun (decisions region)) (forced_in atoms.now values.now forced)) forced region }
 {
-    let mut learnt = known;
-    learnt.publish(region).unwrap();
+    let (_, learnt) = known.publish(region);
     let applied = apply::apply(region, forced, atoms, values);
     Inspected {
         answer: answer(applied.held, applied.cut, applied.against),

@@ -10,6 +10,7 @@ use parity::Basis;
 use rows::{Atom, Ordinal};
 
 // The lowest atom that a row shares with a mask, if it shares any; how many it shares is known, so that the words are not read for none.
+// (`words::first` would need the words that both have in memory of their own.)
 fn first_common(row: &[u64], mask: &[u64; 8], shared: usize) -> Option<usize>
     requires few { length row.now ≤ 8 }
     requires counted { shared ≡ ones (bit_and (set_of row.now) (set_of mask.now)) }
@@ -32,17 +33,17 @@ pub fn read(basis: &Basis, place: Ordinal, masks: &Masks) -> Result<Option<Force
     requires { place.0 < basis.now.rank }
     ensures { result ≡ reading_at basis.now masks.now place.0 }
 {
-    let Some(words) = basis.row(place) else {
+    let Some(row) = basis.row(place) else {
         return Ok(None);
     };
-    let open = words::intersection_count(words, &masks.free[..words.len()]).unwrap_or(0);
+    let width = row.words.len();
+    let open = words::intersection_count(row.words, &masks.free[..width]).unwrap_or(0);
     if open > 1 {
         return Ok(None);
     }
-    let parity = words::intersection_parity(words, &masks.held[..words.len()]).unwrap_or(false);
-    let source = basis.entries[place.0];
-    let constant = basis.constants[source] == 1;
-    match first_common(words, &masks.free, open) {
+    let parity = words::intersection_parity(row.words, &masks.held[..width]).unwrap_or(false);
+    let constant = row.constant == 1;
+    match first_common(row.words, &masks.free, open) {
         Some(atom) => Ok(Some(Forced {
             atom: Atom(atom),
             value: constant != parity,

@@ -36,7 +36,7 @@ struct State {
 }
 
 impl State {
-    // Above 512 atoms there is no region; the one of no atoms stands for it.
+    // Above 512 atoms there is no region; the one of no atoms stands for it, since `put_lines` asks nothing of the system that it is lent.
     fn begin(atoms: usize) -> State
         ensures { state_of result ≡ begins atoms }
     {
@@ -56,11 +56,12 @@ impl State {
     {
         let atom = usize::from(at.decided());
         let holds = at.value() == 1;
-        let answer = if holds {
+        let (answer, region) = if holds {
             self.region.hold(Atom(atom))
         } else {
             self.region.cut(Atom(atom))
         };
+        self.region = region;
         print::put_decision(text, atom, usize::from(holds), answer);
     }
 

@@ -1,4 +1,4 @@
-// One line each, of the answers that the calls give.
+// One line each, of the answers that the calls give; by hand and not by `write!`, as `text` says.
 ghost use Rattle.std.specs.Prelude.{◌≡◌};
 ghost use Rattle.text.specs.Puts.{Puts};
 ghost use Rattle.lines.specs.Words.{answer_word, step_word, probe_word};
@@ -63,7 +63,8 @@ fn step_word(answer: Step) -> &'static [u8]
     }
 }
 
-// "inspect": answer, held, cut. A refused inspection says so, with held and cut 0.
+// "inspect": answer, held, cut. A refused inspection says so, with held and cut 0. What this line shares with that of a probe is `put_two`: every word
+// and field is another.
 pub fn put_inspection(text: &mut Text, inspected: Result<Inspected, Refusal>)
     ensures { Puts text.old (inspect_line inspected) text.new }
 {

@@ -30,7 +30,7 @@ pub set_length : (n : ℕ) (atoms : List ℕ) → length (set_named n atoms) ≡
 unfolding set_named
 set_length n atoms = length-map (list_from (λ (a : ℕ). a) 0 n) (λ (a : ℕ). among a atoms) ∙ list_length (λ (a : ℕ). a) 0 n
 
--- ---- the turns of `insert_atoms`
+-- ---- the turns of `fill_row`
 
 module _ (number : ℕ → ℕ) (i c : ℕ) (ws : List ℕ) where
   pub inserted_next : i < c → inserted_all (list_from number i (c - i)) ws ≡ inserted_all (list_from number (i + 1) (c - (i + 1))) (inserted ws (number i))

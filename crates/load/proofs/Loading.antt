@@ -1,5 +1,5 @@
--- Rows written one after another: a row, and what is left to write, with the turns of `load_records`.
-use Prim.Native.Nat.{ℕ, zero, suc, ◌+◌, ◌*◌, ◌≤◌}
+-- Rows written one after another: a row, and what is left to write, with the turns of `put_records`.
+use Prim.Native.Nat.{ℕ, ◌+◌, ◌*◌, ◌≤◌}
 use mathlib.Core.Path.{◌≡◌, refl, sym, ap, ap₂, subst, ◌∙◌}
 use mathlib.Core.List.{List, [], ◌∷◌, ◌++◌, append-nil, append_assoc, reverse, reverse-append}
 use mathlib.Core.Bool.{cond}
@@ -8,6 +8,7 @@ use native.Mathlib.Omega.{arith}
 use lib.ListN.{length, take, drop, set, replicate, length-append, length-drop, length-reverse}
 use lib.Seq.{sets, sets-eq, length-sets, length-take-le, drop-drop}
 use lib.Dec.{eqb}
+use Rattle.rows.proofs.Constants.{number_back}
 use Rattle.text.proofs.Written.{sets_append}
 use Rattle.rows.specs.Row.{Row}
 use Rattle.rows.specs.Flat.{width_of, mask_of, unpack}
@@ -49,11 +50,6 @@ constants_size rs = constants_length (reverse rs) ∙ length-reverse rs
 
 -- ---- one row
 
-bit_of : (v : ℕ) → v ≤ 1 → v ≡ cond (eqb v 1) 1 0
-bit_of zero h = refl
-bit_of (suc zero) h = refl
-bit_of (suc (suc v)) h = absurd (omega arith)
-
 pub row_loaded : (n w at : ℕ) (ws cs atoms : List ℕ) (v : ℕ) → n ≤ w * 64 → AllBelow n atoms → v ≤ 1
     → let r : Row = record { atoms = set_named n atoms; constant = eqb v 1 } in
     Room w (r ∷ []) ws cs at → (ws' : List ℕ) → ws' ≡ take (at * w) ws ++ (inserted_all atoms (replicate w 0) ++ drop (at * w + w) ws)
@@ -67,7 +63,7 @@ row_loaded n w at ws cs atoms v wide below small room ws' is =
       place = refl;
       words = is ∙ ap₂ (λ (l : List ℕ) (k : ℕ). take (at * w) ws ++ (l ++ drop (at * w + k) ws)) (named_words n w wide atoms below) (sym size)
           ∙ sym (append_assoc (take (at * w) ws) own (drop (at * w + length own) ws)) ∙ sym (sets-eq own ws (at * w) fits);
-      constants = ap (set cs at) (bit_of v small);
+      constants = ap (set cs at) (sym (number_back v (omega arith)));
     }
 
 -- with the width as it was worked out, and the part of the words that the row stands in

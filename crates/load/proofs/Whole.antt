@@ -11,7 +11,7 @@ use Rattle.std.proofs.Common.{Result, Ok, Err}
 use Rattle.rows.specs.Row.{Row}
 use Rattle.rows.specs.Flat.{width_of}
 use Rattle.fit.specs.Rows.{short}
-use Rattle.fit.proofs.Among.{or_right}
+use Rattle.std.proofs.lemmas.Bool.{or_right}
 use Rattle.embed.specs.Parts.{all_rows}
 use Rattle.format.specs.Starts.{starts}
 use Rattle.record.specs.declared.Fault.{Fault}

@@ -44,7 +44,8 @@ struct Filling<'a> {
     next: usize,
 }
 
-// Writes a row's words: those of the atoms that its record names.
+// Writes a row's words: those of the atoms that its record names. A range, since a record is asked for its atoms by number: an iterator of them
+// would be a struct, a relation and a measure for this one loop.
 fn fill_row(at: Record, row: &mut [u64])
     ensures { row.new ≡ inserted_all (row_atoms at.entry.file.now at.entry.offset) (replicate (length row.old) 0) }
 {
@@ -54,6 +55,7 @@ fn fill_row(at: Record, row: &mut [u64])
     }
 }
 
+// (Each method asks for room: it is room for the rows that come, so no type of what stands can have it.)
 impl Filling<'_> {
     // Writes the row of such a record.
     fn put_row(&mut self, at: Record)

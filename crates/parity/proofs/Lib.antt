@@ -8,6 +8,7 @@ pub mod Marking
 pub mod Visiting
 pub mod Naming
 pub mod Columns
+pub mod InOrder
 pub mod Ordinals
 pub mod Single
 pub mod Collecting

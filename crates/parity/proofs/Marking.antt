@@ -10,6 +10,7 @@ use lib.Dec.{eqb, ltb}
 use lib.ListN.{length, get_or, take, drop, set, length-set}
 use lib.Seq.{take-set-lt, take-set-le, drop-set-lt, drop-set-add, get_or-take, get_or-drop}
 use lib.Bits.{bit_or, or_zero_r}
+use Rattle.std.proofs.lemmas.Bool.{or_right}
 use Rattle.words.specs.Set.{set_of, digit, has, low}
 use Rattle.words.proofs.Bitwise.{by_or, two, digit_op, digit_ext}
 use Rattle.words.proofs.Packed.{packed_set}
@@ -116,10 +117,6 @@ joined : (p q : Bool) (mark column : ℕ) → mark_if p mark (mark_if q mark col
 joined true true mark column = or_twice column mark
 joined true false mark column = refl
 joined false q mark column = refl
-
-or_right : (p q : Bool) → q ≡ true → (p || q) ≡ true
-or_right true q e = refl
-or_right false q e = e
 
 module _ (stride mark x : ℕ) (index : List ℕ) (y : ℕ) (index' : List ℕ) (so : Left stride mark x index y index') (y' z : ℕ) (is : y ≡ bit_or y' z) where
   either : (b : ℕ) → has y b ≡ (has y' b || has z b)

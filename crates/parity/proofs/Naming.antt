@@ -7,16 +7,14 @@ use native.Mathlib.Nat.{mod-add-div'}
 use native.Mathlib.Omega.{arith}
 use borrow.Author.Tests.{lt-ltb, le-leb}
 use lib.ListN.{length, get_or}
-use Rattle.std.specs.Prelude.{Option, Some, None, MatchOption}
-use Rattle.std.specs.Option.{option_copied}
-use denote.Bor.{Bor}
+use Rattle.std.specs.Prelude.{Some, None}
 use lib.Pow.{pow-add}
 use Rattle.words.specs.declared.Place.{Place}
 use Rattle.words.specs.Calls.{place_of}
 use Rattle.rows.specs.Flat.{width_of, row}
 use Rattle.rows.specs.Calls.{source_of, part_of, row_of}
 use Rattle.fit.proofs.Fitting.{Fit}
-use Rattle.echelon.proofs.Whole.{row_room}
+use Rattle.rows.proofs.Adding.{earlier}
 use Rattle.parity.specs.Named.{Named}
 use Rattle.rows.specs.declared.Ordinal.{Ordinal}
 use Rattle.rows.specs.declared.Source.{Source}
@@ -28,11 +26,6 @@ source_named ps j h = ap (λ (t : Bool). cond t (Some (record { 0 = get_or ps j.
 pub row_named : (w : ℕ) (ws : List ℕ) (s : Source) → s.0 * w + w ≤ length ws → row_of w ws s ≡ Some (row w ws s.0)
 unfolding part_of
 row_named w ws s h = ap (λ (t : Bool). cond t (Some (row w ws s.0)) None) (le-leb (s.0 * w + w) (length ws) h)
-
--- a reference that may be there, by the value behind it
-pub copied_some : (o : Option (Bor (List ℕ))) (r : List ℕ) (P Q : Type 0) → option_copied o ≡ Some r → Q → MatchOption o P (λ b. Q × (b.now ≡ r))
-copied_some None r P Q is q = let z : ◌≡◌ {A = ℕ} 0 1 = cc in absurd (omega arith)
-copied_some (Some b) r P Q is q = (q, cc)
 
 -- bit j mod 64 of word j div 64 is the ordinal's mark
 pub ordinal_mark : (p : Place) (j : ℕ) → p ≡ place_of j → p.bit * 2 ^ (p.word * 64) ≡ 2 ^ j
@@ -49,7 +42,7 @@ named_of n m rank ws cs ps fit ranked entries names = record {
       let inside = names j h in
       record {
         atoms = fit.atoms;
-        words = omega (arith, row_room row m (width_of n) inside, fit.words);
+        words = omega (arith, earlier (width_of n) m row inside, fit.words);
         constants = omega (arith, inside, fit.constants);
         below = fit.clean row inside;
         constant = fit.small row inside;

@@ -11,6 +11,7 @@ use lib.Bits.{and_self}
 use lib.Count.{ones}
 use lib.Dec.{eqb}
 use Rattle.std.specs.Prelude.{None, Ok, Err}
+use Rattle.rows.proofs.Constants.{number_back}
 use Rattle.words.specs.Set.{set_of, low}
 use Rattle.words.specs.declared.Unfit.TheVariants.{TooWide}
 use Rattle.words.specs.Calls.{count_of, first_of, narrow}
@@ -88,15 +89,9 @@ pub low_row : (n w : ℕ) (ws cs : List ℕ) (s : ℕ) → ones (set_of (row w w
 unfolding row_at
 low_row n w ws cs s one fit = low_atoms n (set_of (row w ws s)) (single_some (set_of (row w ws s)) one) fit
 
--- a constant of 0 or 1 is its row's value
-value_of : (c : ℕ) → c < 2 → cond (eqb c 1) 1 0 ≡ c
-value_of zero h = refl
-value_of (suc zero) h = refl
-value_of (suc (suc c)) h = let z : ⊥ = omega arith in absurd z
-
 pub value_row : (n w : ℕ) (ws cs : List ℕ) (s : ℕ) → get_or cs s 0 < 2 → cond (row_at n w ws cs s).constant 1 0 ≡ get_or cs s 0
 unfolding row_at
-value_row n w ws cs s h = value_of (get_or cs s 0) h
+value_row n w ws cs s h = number_back (get_or cs s 0) h
 
 pub units_snoc : (rs : List Row) (r : Row) → units_of (rs ++ (r ∷ [])) ≡ units_of rs ++ cond (eqb (size r.atoms) 1) (r ∷ []) []
 units_snoc [] r = refl

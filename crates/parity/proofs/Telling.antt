@@ -1,7 +1,7 @@
 -- A column of the index that preparation wrote: its words are those of the definition, and its bits tell which basis rows have the atom.
 use Prim.Native.Nat.{ℕ, zero, suc, ◌*◌, ◌^◌, ◌≤◌, ◌<◌, min}
 use mathlib.Core.Path.{◌≡◌, refl, sym, ap, ◌∙◌}
-use mathlib.Core.List.{List, [], ◌∷◌, ◌++◌, map, append_assoc}
+use mathlib.Core.List.{List, [], ◌++◌, append_assoc}
 use mathlib.Core.Bool.{Bool, true, false, ◌&&◌, true≢false}
 use native.Mathlib.Nat.{zero-mul, suc-mul, lt_of_lt_of_le}
 use native.Mathlib.Omega.{arith}
@@ -11,6 +11,7 @@ use lib.ListN.{length, get_or, take, drop, length-append, length-map}
 use lib.Seq.{length-take-le, take_at, drop_at, get_or-take}
 use lib.Dec.{eqb, ltb}
 use lib.Pow.{pow_mono}
+use Rattle.std.proofs.lemmas.List.{get_or-map}
 use Rattle.words.specs.Set.{set_of, has}
 use Rattle.rows.specs.Row.{Row, has_atom}
 use Rattle.rows.specs.Flat.{width_of, row_at, row, mask_of, unpack}
@@ -54,11 +55,6 @@ index_row w rs (suc n) a h rest =
     go false e older = older (lt_of_le-ne (omega arith) (eqb-false a n e))
 
 -- ---- the bits of one column
-
-map_at : {A B : Type 0} (f : A → B) (l : List A) (j : ℕ) (d : B) (e : A) → j < length l → get_or (map f l) j d ≡ f (get_or l j e)
-map_at f [] j d e h = let z : ⊥ = omega arith in absurd z
-map_at f (x ∷ l) zero d e h = refl
-map_at f (x ∷ l) (suc j) d e h = map_at f l j d e (omega arith)
 
 module _ (n rank : ℕ) (rs : List Row) (ranked : length rs ≡ rank) (rest : List ℕ) where
   abbrev written : List ℕ
@@ -135,7 +131,7 @@ column_tells n m l a fit h = of_both n m l (Tells n a) tells
           column_length n rank rs ranked rest fits.fit.atoms ranks a h,
           λ j. column_bit n rank rs ranked rest fits.fit.atoms ranks a h j ∙ below rank (λ lt.
               let within : j < length named = omega arith in
-              map_at (λ (r : Row). has_atom r a.0) rs j false (row_here 0) (omega arith)
-              ∙ ap (λ (r : Row). has_atom r a.0) (map_at row_here named j (row_here 0) 0 within)
+              get_or-map (λ (r : Row). has_atom r a.0) rs j (row_here 0) false (omega arith)
+              ∙ ap (λ (r : Row). has_atom r a.0) (get_or-map row_here named j 0 (row_here 0) within)
               ∙ ap (λ (s : ℕ). has_atom (row_here s) a.0) (get_or-take rank o.basis j 0 lt)),
         )

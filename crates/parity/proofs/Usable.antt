@@ -12,7 +12,7 @@ use Rattle.echelon.proofs.Basis.{rank_rows, basis_below}
 use Rattle.echelon.proofs.Solutions.{rank_le}
 use Rattle.echelon.proofs.Written.{words_length, constants_length, fit_words, fit_constants}
 use Rattle.echelon.proofs.Upto.{rows_sized, rows_length}
-use Rattle.echelon.proofs.Whole.{row_room}
+use Rattle.rows.proofs.Adding.{earlier}
 use Rattle.parity.specs.Named.{Named}
 
 pub rank_few : (n m : ℕ) (ws cs : List ℕ) → length (eliminated n (rows_to n (width_of n) ws cs m)).basis ≤ min m n
@@ -48,7 +48,7 @@ module _ (n m : ℕ) (ws cs ps : List ℕ) (atoms : n ≤ 512) (room : min m n �
         let long' = length-append (constants_of st.rows) (drop (length st.rows) cs) in
         record {
           atoms = atoms;
-          words = omega (arith, row_room s (length st.rows) w e, words_length w st.rows);
+          words = omega (arith, earlier w (length st.rows) s e, words_length w st.rows);
           constants = omega (arith, constants_length st.rows);
           below = fit_words n w st.rows sized wide (drop (length st.rows * w) ws) s e;
           constant = fit_constants st.rows (drop (length st.rows) cs) s e;

@@ -12,7 +12,7 @@ use Rattle.rows.specs.Flat.{width_of}
 use Rattle.std.specs.Prelude.{Ok, Err}
 use Rattle.refusal.specs.Refusal.{answered, left as left_of}
 use Rattle.refusal.specs.declared.Refusal.{Refusal}
-use Rattle.fit.proofs.Among.{or_none}
+use Rattle.std.proofs.lemmas.Bool.{or_parts}
 use Rattle.fit.proofs.Fitting.{Fit, joined_fit, fit_joined}
 use Rattle.index.specs.Index.{column_width, index_of, incidences_of}
 use Rattle.echelon.specs.Forward.{State, eliminated}
@@ -51,9 +51,9 @@ module _ (n m : ℕ) (l : Lent) (e : prepare_check n m l ≡ Ok tt) where
   room =
       let lists = lists_short n m (length l.basis) (length l.unit_atoms) (length l.unit_values) (length l.index) in
       let fit = joined_fit n m l.rows l.constants lists e in
-      let first = or_none _ _ fit.1 in
-      let second = or_none _ _ first.1 in
-      let third = or_none _ _ second.1 in
+      let first = or_parts _ _ fit.1 in
+      let second = or_parts _ _ first.1 in
+      let third = or_parts _ _ second.1 in
       record {
         fit = fit.0;
         basis = ltb-false _ _ first.0;

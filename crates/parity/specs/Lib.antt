@@ -3,5 +3,6 @@ pub mod Basis
 pub mod Prepare
 pub mod Promises
 pub mod Named
+pub mod Visit
 pub mod Entered
 pub mod Single

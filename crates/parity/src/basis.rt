@@ -1,11 +1,11 @@
-// The basis rows of a prepared system, lent as one value.
-ghost use Rattle.std.specs.Prelude.{◌≡◌, ◌≤◌, ◌<◌, get_or, MatchOption};
-ghost use Rattle.rows.specs.Flat.{width_of, row};
+// The basis rows of a prepared system, lent as one value, and one of them. (visit.rt reads them.)
+ghost use Rattle.std.specs.Prelude.{◌≤◌, length};
 ghost use Rattle.parity.specs.Named.{Named};
 
-use rows::{Ordinal, Source};
+use rows::Ordinal;
 
-// So many rows over so many atoms, each named by an entry.
+// So many rows over so many atoms, each named by an entry. It is made by its fields, where the checks stand: a function that makes it would have a
+// `requires`, which no public one has. (`rank` stands beside entries that are lent longer, as C lends them.)
 #[derive(Clone, Copy)]
 pub struct Basis<'a> {
     pub atoms: usize,
@@ -18,22 +18,11 @@ pub struct Basis<'a> {
     pub ghost named: { Named atoms rank rows.now constants.now entries.now },
 }
 
-impl Basis<'_> {
-    // The row that an ordinal names, where it is below the rank.
-    pub fn source(&self, ordinal: Ordinal) -> Option<Source>
-        ensures { MatchOption result (self.now.rank ≤ ordinal.0) (λ source. (ordinal.0 < self.now.rank) × (source.0 ≡ get_or self.now.entries.now ordinal.0 0)) }
-    {
-        if self.rank <= ordinal.0 {
-            return None;
-        }
-        rows::source_at(self.entries, ordinal)
-    }
-
-    // Its words.
-    pub fn row(&self, ordinal: Ordinal) -> Option<&[u64]>
-        ensures { MatchOption result (self.now.rank ≤ ordinal.0) (λ words. (ordinal.0 < self.now.rank) × (words.now ≡ row (width_of self.now.atoms) self.now.rows.now (get_or self.now.entries.now ordinal.0 0))) }
-    {
-        let source = self.source(ordinal)?;
-        rows::row(self.rows, rows::width(self.atoms), source)
-    }
+// A basis row: its place in the basis, its words and its constant.
+#[derive(Clone, Copy)]
+pub struct BasisRow<'a> {
+    pub ordinal: Ordinal,
+    pub words: &'a [u64],
+    pub constant: u8,
+    pub ghost few: { length words.now ≤ 8 },
 }

@@ -7,10 +7,10 @@ ghost use Rattle.parity.specs.Basis.{rows_of};
 ghost use Rattle.parity.specs.Entered.{Reaches, Entered};
 
 use crate::basis::Basis;
-use rows::Ordinal;
 use words::Place;
 
-// Sets a bit in the columns of the atoms of one word, whose first atom is `base`.
+// Sets a bit in the columns of the atoms of one word, whose first atom is `base`. (The index and its stride are passed apart: a struct of them would be
+// made for the one loop below.)
 fn enter_word(index: &mut [u64], stride: usize, place: Place, base: usize, word: u64)
     requires wide { place.word < stride }
     requires reaches { Reaches stride (word * 2 ^ base) (length index.old) }
@@ -46,9 +46,8 @@ fn enter_rows(basis: &Basis, index: &mut [u64], stride: usize) -> usize
 {
     words::clear(index);
     let mut incidences = 0;
-    for j in 0..basis.rank {
-        let words = basis.row(Ordinal(j)).unwrap();
-        incidences += enter_row(index, stride, words::locate(j), words);
+    for row in basis.in_order() {
+        incidences += enter_row(index, stride, words::locate(row.ordinal.0), row.words);
     }
     incidences
 }

@@ -4,13 +4,14 @@
 ghost use Rattle.std.specs.Prelude.{◌≡◌, ◌≤◌};
 ghost use Rattle.parity.specs.Prepare.{lent, lists_short, prepare_check, prepare_of};
 
-pub use basis::Basis;
+pub use basis::{Basis, BasisRow};
 use refusal::Refusal;
 
 mod basis;
 mod incidence;
 pub mod promises;
 mod units;
+mod visit;
 
 // A system as preparation leaves it: how many atoms and rows there are, how many basis rows, and whether it was refuted.
 // (A flag in a plain record: C has it so.)

@@ -7,6 +7,7 @@ pub fn prepare_keeps()
 {}
 
 // sound means solvable
+#[tactic(auto, using(crate::proofs::Leaving::prepare_counts))]
 pub fn prepare_counts()
     ensures { PrepareCounts }
 {}
@@ -17,6 +18,7 @@ pub fn prepare_pivots()
 {}
 
 // "that row is added (XOR, constants too; one addition)"
+#[tactic(auto, using(crate::proofs::Leaving::prepare_sums))]
 pub fn prepare_sums()
     ensures { PrepareSums }
 {}
@@ -27,6 +29,7 @@ pub fn column_tells()
 {}
 
 // what is left is fit to be lent again: the rows and the basis, and the index of a sound system
+#[tactic(auto, using(crate::proofs::Refit::prepare_fits))]
 pub fn prepare_fits()
     ensures { PrepareFits }
 {}

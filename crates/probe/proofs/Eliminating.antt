@@ -1,4 +1,4 @@
--- `eliminate_rows` as a whole: what `echelon` answers of the rows in memory is what is told of the basis rows.
+-- `eliminate_with` as a whole: what `echelon` answers of the rows in memory is what is told of the basis rows.
 use Prim.Native.Nat.{ℕ, ◌≤◌, ◌<◌, min}
 use mathlib.Core.Path.{◌≡◌, refl, sym, ap, ◌∙◌}
 use mathlib.Core.List.{List}

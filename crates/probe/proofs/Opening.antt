@@ -1,4 +1,4 @@
--- Basis rows with the decided atoms taken out, written into memory: the turns of `open_words` and of `substitute_rows`.
+-- Basis rows with the decided atoms taken out, written into memory: the turns of `split` and of `substitute_all`.
 use Prim.Native.Nat.{ℕ, zero, suc, ◌+◌, ◌-◌, ◌*◌, ◌%◌, ◌^◌, ◌≤◌, ◌<◌}
 use mathlib.Core.Path.{◌≡◌, refl, sym, ap, ap₂, ◌∙◌}
 use mathlib.Core.List.{List, [], ◌∷◌, ◌++◌, zip_with, append-nil}
@@ -24,12 +24,12 @@ use Rattle.rows.proofs.Places.{row_length}
 use Rattle.rows.proofs.Rowwise.{constant_sum}
 use Rattle.echelon.specs.Steps.{put, OnlyRow}
 use Rattle.echelon.proofs.Replaced.{put_row, put_only, row_kept, constant_kept, at_kept}
-use Rattle.echelon.proofs.Whole.{row_room}
+use Rattle.rows.proofs.Adding.{earlier}
 use Rattle.parity.specs.Named.{Legible, Named}
 use Rattle.inspect.proofs.Readings.{atoms_and}
 use Rattle.probe.specs.Elimination.{substituted}
 use Rattle.inspect.specs.Steps.{Masked}
-use Rattle.probe.specs.Steps.{Room, open_of, flipped_of, Opened}
+use Rattle.probe.specs.Steps.{Room, Opened}
 
 -- ---- one row
 
@@ -80,28 +80,20 @@ module _ (words held free left₀ : List ℕ) (short : length words ≤ 8) (same
           omega (arith, o.parity, shared_none 64 words held i h),
         )
 
--- a row lent as a part of the words, and written as one
-module _ (w s t : ℕ) (ws : List ℕ) where
-  abbrev part : List ℕ
-  part = take (s * w + w - s * w) (drop (s * w) ws)
-
-  part_row : part ≡ row w ws s
-  part_row = ap (λ (k : ℕ). take k (drop (s * w) ws)) (add-sub_cancel_left (s * w) w)
-
-  mid_row : (left r : List ℕ) → put_mid (t * w) (t * w + w - t * w) left r ≡ put w t left r
-  unfolding put
-  mid_row left r =
-      ap (λ (l : List ℕ). take (t * w) left ++ (r ++ l)) (drop-drop (t * w + w - t * w) (t * w) left ∙ ap (λ (k : ℕ). drop (t * w + k) left) (add-sub_cancel_left (t * w) w))
-
-  pub words_put : (free left r : List ℕ) → r ≡ zip_with bit_and part free → put_mid (t * w) (t * w + w - t * w) left r ≡ put w t left (open_of w free ws s)
-  words_put free left r is = mid_row left r ∙ ap (put w t left) (is ∙ ap (λ (l : List ℕ). zip_with bit_and l free) part_row)
-
-  pub constant_put : (held cs cs' : List ℕ) (flips : ℕ) → flips ≡ ones (bit_and (set_of part) (set_of held)) % 2
-      → set cs' t (bit_xor (get_or cs s 0) flips) ≡ set cs' t (flipped_of w held ws cs s)
-  constant_put held cs cs' flips is =
-      ap (λ (k : ℕ). set cs' t (bit_xor (get_or cs s 0) k)) (is ∙ ap (λ (l : List ℕ). ones (bit_and (set_of l) (set_of held)) % 2) part_row)
+-- a part of the words written as a row
+pub part_put : (w t : ℕ) (left r : List ℕ) → put_mid (t * w) (t * w + w - t * w) left r ≡ put w t left r
+unfolding put
+part_put w t left r =
+    ap (λ (l : List ℕ). take (t * w) left ++ (r ++ l)) (drop-drop (t * w + w - t * w) (t * w) left ∙ ap (λ (k : ℕ). drop (t * w + k) left) (add-sub_cancel_left (t * w) w))
 
 -- ---- row after row
+
+-- the open atoms of row s in words, and its constant flipped by each atom held.
+abbrev open_of : ℕ → (free ws : List ℕ) → ℕ → List ℕ
+open_of w free ws s = zip_with bit_and (row w ws s) free
+
+abbrev flipped_of : ℕ → (held ws cs : List ℕ) → ℕ → ℕ
+flipped_of w held ws cs s = bit_xor (get_or cs s 0) (ones (bit_and (set_of (row w ws s)) (set_of held)) % 2)
 
 pub room_kept : (n rank : ℕ) (left cs left' cs' : List ℕ) → Room n rank left cs → length left' ≡ length left → length cs' ≡ length cs → Room n rank left' cs'
 room_kept n rank left cs left' cs' room words constants = record { words = omega (arith, room.words); constants = omega (arith, room.constants) }
@@ -111,7 +103,7 @@ module _ (n rank : ℕ) (held free ws cs ps left cs' : List ℕ) (j : ℕ) (name
   fit = named.legible j below
 
   room : j * width_of n + width_of n ≤ length left
-  room = omega (arith, row_room j rank (width_of n) below, memory.words)
+  room = omega (arith, earlier (width_of n) rank j below, memory.words)
 
   place : j < length cs'
   place = omega (arith, memory.constants)

@@ -13,7 +13,7 @@ use Rattle.std.specs.Prelude.{Result, Ok}
 use Rattle.refusal.specs.Refusal.{answered}
 use Rattle.refusal.specs.declared.Refusal.{Refusal}
 use Rattle.fit.specs.Rows.{overfull, short, strays, misnames}
-use Rattle.fit.proofs.Among.{or_none}
+use Rattle.std.proofs.lemmas.Bool.{or_parts}
 use Rattle.fit.proofs.Fitting.{fit_of, passed}
 use Rattle.fit.proofs.Naming.{names_each}
 use Rattle.parity.specs.Basis.{basis_of}
@@ -48,11 +48,11 @@ module _ (s : System) (ws cs ps : List ℕ) (r : Region) where
       let clash = passed (clashes r) _ _ stray.1 in
       let name = passed (misnames s.rows ps s.rank) _ _ clash.1 in
       let count = passed (not (eqb r.atoms s.atoms)) _ _ name.1 in
-      let limits = or_none (overfull s.atoms s.rows) _ full.0 in
-      let system = or_none (ltb 512 s.atoms) (ltb 512 s.rows) limits.0 in
-      let room = or_none (short s.atoms s.rows ws cs) _ nine.0 in
-      let rows = or_none (ltb (length ws) (s.rows * width_of s.atoms)) _ room.0 in
-      let strange = or_none (strays s.atoms (width_of s.atoms) ws cs s.rows) (strayed r) stray.0 in
+      let limits = or_parts (overfull s.atoms s.rows) _ full.0 in
+      let system = or_parts (ltb 512 s.atoms) (ltb 512 s.rows) limits.0 in
+      let room = or_parts (short s.atoms s.rows ws cs) _ nine.0 in
+      let rows = or_parts (ltb (length ws) (s.rows * width_of s.atoms)) _ room.0 in
+      let strange = or_parts (strays s.atoms (width_of s.atoms) ws cs s.rows) (strayed r) stray.0 in
       record {
         few = ltb-false 512 s.atoms system.0;
         named =

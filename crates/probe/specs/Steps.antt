@@ -1,12 +1,10 @@
 -- What the private functions of `probe` ask and leave, for their contracts alone: no reader has to believe it, since `probe` asks nothing.
-use Rattle.std.specs.Prelude.{ℕ, ◌*◌, ◌%◌, ◌^◌, ◌≤◌, ◌<◌, ◌≡◌, length, get_or}
-use mathlib.Core.List.{List, map, zip_with}
-use Rattle.std.specs.Int.Bits.{bit_and, bit_xor}
-use Rattle.std.specs.Int.Count.{ones}
+use Rattle.std.specs.Prelude.{ℕ, ◌*◌, ◌^◌, ◌≤◌, ◌<◌, ◌≡◌, length, get_or}
+use mathlib.Core.List.{List, map}
 use Rattle.words.specs.Set.{set_of}
 use Rattle.rows.specs.Row.{Row}
 use Rattle.rows.specs.Decisions.{Decisions}
-use Rattle.rows.specs.Flat.{width_of, row, row_at, atoms_of}
+use Rattle.rows.specs.Flat.{width_of, row, row_at}
 use Rattle.echelon.specs.Forward.{low}
 use Rattle.parity.specs.Basis.{rows_of}
 use Rattle.parity.specs.declared.basis.Basis.{Basis}
@@ -23,13 +21,6 @@ pivots ks = map (λ k. low k.atoms) ks
 pub record Room (n rank : ℕ) (left cs : List ℕ) : Type 0 where
   pub words : rank * width_of n ≤ length left
   pub constants : rank ≤ length cs
-
--- The open atoms of row s in words, and its constant flipped by each atom held.
-abbrev pub open_of : ℕ → (free ws : List ℕ) → ℕ → List ℕ
-open_of w free ws s = zip_with bit_and (row w ws s) free
-
-abbrev pub flipped_of : ℕ → (held ws cs : List ℕ) → ℕ → ℕ
-flipped_of w held ws cs s = bit_xor (get_or cs s 0) (ones (bit_and (set_of (row w ws s)) (set_of held)) % 2)
 
 -- The first j rows in memory are fit, and they are those that the basis names with the decided atoms taken out.
 pub record Opened (n : ℕ) (held free ws cs ps left cs' : List ℕ) (j : ℕ) : Type 0 where

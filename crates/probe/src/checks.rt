@@ -8,7 +8,7 @@ use refusal::Refusal;
 use region::Region;
 
 // The checks in their order.
-#[tactic(auto, unfolding(crate::specs::Probe::probe_check, fit::specs::Rows::rows_check, region::specs::Calls::region_check))]
+#[tactic(auto, unfolding(crate::specs::Probe::probe_check))]
 pub fn check(
     system: System,
     rows: &[u64],
@@ -28,11 +28,7 @@ pub fn check(
     if basis.len() < entries {
         return Err(Refusal::Short);
     }
-    fit::check_rows(system.atoms, system.rows, rows, constants)?;
-    region.check()?;
-    if fit::any_misnames(basis, system.rows, system.rank) {
-        return Err(Refusal::Basis);
-    }
+    inspect::check_lent(system, rows, constants, basis, region)?;
     if region.atoms != system.atoms {
         return Err(Refusal::Unequal);
     }

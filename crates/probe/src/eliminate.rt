@@ -1,18 +1,16 @@
 // Elimination over the open atoms: "Basis rows in order, decided atoms taken out, each held one flipping the constant."
 // The rows are written into memory of the probe's own, and `echelon` eliminates them there. It stops at a lowest atom without a pivot, where
 // document 01 adds every row kept; as many rows are kept, and no is said at the same row (proofs/Agreed.antt).
-ghost use Rattle.std.specs.Prelude.{◌≡◌, Ok, ◌*◌, ◌%◌, ◌≤◌, ◌<◌, min, length, get_or, set};
+ghost use Rattle.std.specs.Prelude.{◌≡◌, Ok, ◌*◌, ◌%◌, ◌≤◌, min, length};
 ghost use mathlib.Core.List.{zip_with};
 ghost use Rattle.std.specs.Int.Bits.{bit_and};
 ghost use Rattle.std.specs.Int.Count.{ones};
 ghost use Rattle.words.specs.Set.{set_of};
 ghost use Rattle.rows.specs.Flat.{width_of};
-ghost use Rattle.echelon.specs.Steps.{put};
-ghost use Rattle.probe.specs.Steps.{Room, open_of, flipped_of, Opened, ToldOf};
+ghost use Rattle.probe.specs.Steps.{Room, Opened, ToldOf};
 
 use inspect::Masks;
-use parity::Basis;
-use rows::Ordinal;
+use parity::{Basis, BasisRow};
 
 // How many rows are kept, and whether none was left empty with constant 1. The number counts on no too, so it stands beside the flag.
 #[derive(Clone, Copy)]
@@ -21,55 +19,32 @@ pub struct Eliminated {
     pub sound: bool,
 }
 
-// Writes the open atoms of a row, and gives back the parity of its held ones.
-fn split(masks: &Masks, words: &[u64], left: &mut [u64]) -> u8
-    requires few { length words.now ≤ 8 }
-    requires equal { length left.old ≡ length words.now }
-    ensures left { left.new ≡ zip_with bit_and words.now masks.now.free }
-    ensures parity { result ≡ ones (bit_and (set_of words.now) (set_of masks.now.held)) % 2 }
+// Writes the open atoms of a row, and gives back the parity of its held ones. (By place: after `iter_mut` with `zip` a proof knows nothing of
+// what was written.)
+fn split(masks: &Masks, row: &BasisRow, left: &mut [u64]) -> u8
+    requires { length left.old ≡ length row.now.words.now }
+    ensures left { left.new ≡ zip_with bit_and row.now.words.now masks.now.free }
+    ensures parity { result ≡ ones (bit_and (set_of row.now.words.now) (set_of masks.now.held)) % 2 }
     ensures wide { length masks.now.free ≡ 8 }
 {
     let mut sum = 0u64;
-    for (i, word) in words.iter().enumerate() {
+    for (i, word) in row.words.iter().enumerate() {
         left[i] = word & masks.free[i];
         sum ^= word & masks.held[i];
     }
     (sum.count_ones() % 2) as u8
 }
 
-// "decided atoms taken out, each held one flipping the constant": the row of one ordinal, written at its place in the memory.
-fn substitute(
-    basis: &Basis,
-    masks: &Masks,
-    ordinal: Ordinal,
-    left: &mut [u64],
-    constants: &mut [u8],
-)
-    requires ranked { ordinal.0 < basis.now.rank }
-    requires room { Room basis.now.atoms basis.now.rank left.old constants.old }
-    ensures words { left.new ≡ put (width_of basis.now.atoms) ordinal.0 left.old (open_of (width_of basis.now.atoms) masks.now.free basis.now.rows.now (get_or basis.now.entries.now ordinal.0 0)) }
-    ensures wide { length masks.now.free ≡ 8 }
-    ensures constant { constants.new ≡ set constants.old ordinal.0 (flipped_of (width_of basis.now.atoms) masks.now.held basis.now.rows.now basis.now.constants.now (get_or basis.now.entries.now ordinal.0 0)) }
-{
-    let source = basis.source(ordinal).unwrap();
-    let width = rows::width(basis.atoms);
-    let from = source.0 * width;
-    let start = ordinal.0 * width;
-    let flips = split(
-        masks,
-        &basis.rows[from..from + width],
-        &mut left[start..start + width],
-    );
-    constants[ordinal.0] = basis.constants[source.0] ^ flips;
-}
-
-// The basis rows in order.
+// "Basis rows in order, decided atoms taken out, each held one flipping the constant", written into the memory.
 fn substitute_all(basis: &Basis, masks: &Masks, left: &mut [u64], constants: &mut [u8])
     requires { Room basis.now.atoms basis.now.rank left.old constants.old }
     ensures { Opened basis.now.atoms masks.now.held masks.now.free basis.now.rows.now basis.now.constants.now basis.now.entries.now left.new constants.new basis.now.rank }
 {
-    for j in 0..basis.rank {
-        substitute(basis, masks, Ordinal(j), left, constants);
+    let width = rows::width(basis.atoms);
+    for row in basis.in_order() {
+        let start = row.ordinal.0 * width;
+        let flips = split(masks, &row, &mut left[start..start + width]);
+        constants[row.ordinal.0] = row.constant ^ flips;
     }
 }
 

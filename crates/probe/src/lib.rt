@@ -18,7 +18,8 @@ mod checks;
 mod eliminate;
 pub mod promises;
 
-// What the probe answers: yes or no, u (the atoms neither held nor cut) and k (the rows kept).
+// What the probe answers: yes or no, u (the atoms neither held nor cut) and k (the rows kept). The counts stand on no as on yes, so a flag is
+// beside them.
 #[derive(Clone, Copy)]
 pub struct Probed {
     pub yes: bool,

@@ -1,55 +1,54 @@
-// The checks of a record's fields: numbers within their bounds (4), and a table's atoms rising (5).
+// The checks of a record's fields: numbers within their bounds (4), and a table's atoms rising (5). The kind is passed with the record, once it is
+// known: a record may have none.
 ghost use Rattle.std.specs.Prelude.{◌≡◌};
 ghost use Rattle.format.specs.Bytes.{list_from};
 ghost use Rattle.format.specs.Format.{atom_at};
 ghost use Rattle.record.specs.Fields.{all_below, rises, range_check, rising_check};
 
 use super::{Fault, FaultKind};
+use fit::LIMIT;
 use format::{Kind, Record};
 
 // Whether a record's first `count` atoms are below n.
-fn all_below(record: Record, n: usize, count: usize) -> bool
-    ensures { result ≡ all_below n (list_from (atom_at record.entry.file.now record.entry.offset) 0 count) }
+fn all_below(at: Record, n: usize, count: usize) -> bool
+    ensures { result ≡ all_below n (list_from (atom_at at.entry.file.now at.entry.offset) 0 count) }
 {
-    (0..count).all(|i| usize::from(record.atom(i)) < n)
+    (0..count).all(|i| usize::from(at.atom(i)) < n)
 }
 
 // Whether they rise.
-fn rises(record: Record, count: usize) -> bool
-    ensures { result ≡ rises 0 (list_from (atom_at record.entry.file.now record.entry.offset) 0 count) }
+fn rises(at: Record, count: usize) -> bool
+    ensures { result ≡ rises 0 (list_from (atom_at at.entry.file.now at.entry.offset) 0 count) }
 {
-    (1..count).all(|i| record.atom(i - 1) < record.atom(i))
+    (1..count).all(|i| at.atom(i - 1) < at.atom(i))
 }
 
 #[tactic(auto, unfolding(crate::specs::Fields::range_check))]
-pub fn check_range(record: Record, kind: Kind, n: usize) -> Result<(), Fault>
-    ensures { result ≡ range_check record.entry.file.now kind n record.entry.offset }
+pub fn check_range(at: Record, kind: Kind, n: usize) -> Result<(), Fault>
+    ensures { result ≡ range_check at.entry.file.now kind n at.entry.offset }
 {
-    let o = record.offset;
+    let o = at.offset;
     match kind {
-        Kind::Atoms => FaultKind::Range.unless(record.count() <= 512, o),
+        Kind::Atoms => FaultKind::Range.unless(usize::from(at.count()) <= LIMIT, o),
         Kind::Row => {
-            FaultKind::Range.unless(record.constant() <= 1, o)?;
-            FaultKind::Range.unless(all_below(record, n, usize::from(record.atom_count())), o)
+            FaultKind::Range.unless(at.constant() <= 1, o)?;
+            FaultKind::Range.unless(all_below(at, n, usize::from(at.atom_count())), o)
         }
-        Kind::Table => FaultKind::Range.unless(all_below(record, n, usize::from(record.k())), o),
+        Kind::Table => FaultKind::Range.unless(all_below(at, n, usize::from(at.k())), o),
         Kind::Decide => {
-            FaultKind::Range.unless(usize::from(record.decided()) < n, o)?;
-            FaultKind::Range.unless(record.value() <= 1, o)
+            FaultKind::Range.unless(usize::from(at.decided()) < n, o)?;
+            FaultKind::Range.unless(at.value() <= 1, o)
         }
         Kind::Inspect | Kind::Probe => Ok(()),
     }
 }
 
 #[tactic(auto, unfolding(crate::specs::Fields::rising_check))]
-pub fn check_rising(record: Record, kind: Kind) -> Result<(), Fault>
-    ensures { result ≡ rising_check record.entry.file.now kind record.entry.offset }
+pub fn check_rising(at: Record, kind: Kind) -> Result<(), Fault>
+    ensures { result ≡ rising_check at.entry.file.now kind at.entry.offset }
 {
     match kind {
-        Kind::Table => FaultKind::Rising.unless(
-            rises(record, usize::from(record.k())),
-            record.offset,
-        ),
+        Kind::Table => FaultKind::Rising.unless(rises(at, usize::from(at.k())), at.offset),
         _ => Ok(()),
     }
 }

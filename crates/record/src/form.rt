@@ -28,19 +28,19 @@ impl From<Kind> for Group {
 }
 
 // Whether the record lies within its file, by its length; nothing that could wrap is worked out.
-fn framed(record: Record) -> bool
-    ensures { result ≡ (leb (record.entry.offset + 2) (length record.entry.file.now) && (leb 2 (length_at record.entry.file.now record.entry.offset) && leb (end_at record.entry.file.now record.entry.offset) (length record.entry.file.now))) }
+fn framed(at: Record) -> bool
+    ensures { result ≡ (leb (at.entry.offset + 2) (length at.entry.file.now) && (leb 2 (length_at at.entry.file.now at.entry.offset) && leb (end_at at.entry.file.now at.entry.offset) (length at.entry.file.now))) }
 {
-    let left = record.file.len().saturating_sub(record.offset);
-    let length = usize::from(record.length());
+    let left = at.file.len().saturating_sub(at.offset);
+    let length = usize::from(at.length());
     2 <= left && 2 <= length && length <= left - 2
 }
 
 #[tactic(auto, unfolding(crate::specs::Form::length_check))]
-pub fn check_length(record: Record) -> Result<(), Fault>
-    ensures { result ≡ length_check record.entry.file.now record.entry.offset }
+pub fn check_length(at: Record) -> Result<(), Fault>
+    ensures { result ≡ length_check at.entry.file.now at.entry.offset }
 {
-    FaultKind::Length.unless(framed(record), record.offset)
+    FaultKind::Length.unless(framed(at), at.offset)
 }
 
 fn may_follow(before: Option<Group>, group: Group) -> bool
@@ -54,43 +54,40 @@ fn may_follow(before: Option<Group>, group: Group) -> bool
 
 // The kind, where it is one and may stand after what was before.
 #[tactic(auto, unfolding(crate::specs::Form::kind_check))]
-pub fn check_kind(before: Option<Group>, record: Record) -> Result<Kind, Fault>
-    ensures { result ≡ kind_check before (kind_of (kind_at record.entry.file.now record.entry.offset)) record.entry.offset }
+pub fn check_kind(before: Option<Group>, at: Record) -> Result<Kind, Fault>
+    ensures { result ≡ kind_check before (kind_of (kind_at at.entry.file.now at.entry.offset)) at.entry.offset }
 {
     let fault = Fault {
         kind: FaultKind::Order,
-        offset: record.offset,
+        offset: at.offset,
     };
-    let kind = record.kind().or(Err(fault))?;
-    FaultKind::Order.unless(may_follow(before, Group::from(kind)), record.offset)?;
+    let kind = at.kind().or(Err(fault))?;
+    FaultKind::Order.unless(may_follow(before, Group::from(kind)), at.offset)?;
     Ok(kind)
 }
 
 #[tactic(auto, unfolding(crate::specs::Form::table_size_check))]
-fn check_table_size(record: Record) -> Result<(), Fault>
-    ensures { result ≡ table_size_check record.entry.file.now record.entry.offset }
+fn check_table_size(at: Record) -> Result<(), Fault>
+    ensures { result ≡ table_size_check at.entry.file.now at.entry.offset }
 {
-    let size = usize::from(record.body());
-    let k = usize::from(record.k());
-    FaultKind::Size.unless(size >= 1, record.offset)?;
-    FaultKind::Range.unless(k <= 8, record.offset)?;
-    FaultKind::Size.unless(
-        size == 1 + k * 2 + format::table_words(k) * 8,
-        record.offset,
-    )
+    let size = usize::from(at.body());
+    let k = usize::from(at.k());
+    FaultKind::Size.unless(size >= 1, at.offset)?;
+    FaultKind::Range.unless(k <= hull::LIMIT, at.offset)?;
+    FaultKind::Size.unless(size == 1 + k * 2 + hull::table_words(k) * 8, at.offset)
 }
 
 #[tactic(auto, unfolding(crate::specs::Form::size_check))]
-pub fn check_size(record: Record, kind: Kind) -> Result<(), Fault>
-    ensures { result ≡ size_check record.entry.file.now kind record.entry.offset }
+pub fn check_size(at: Record, kind: Kind) -> Result<(), Fault>
+    ensures { result ≡ size_check at.entry.file.now kind at.entry.offset }
 {
-    let size = record.body();
+    let size = at.body();
     let fit = match kind {
         Kind::Atoms => size == 2,
         Kind::Row => size % 2 == 1,
-        Kind::Table => return check_table_size(record),
+        Kind::Table => return check_table_size(at),
         Kind::Decide => size == 3,
         Kind::Inspect | Kind::Probe => size == 0,
     };
-    FaultKind::Size.unless(fit, record.offset)
+    FaultKind::Size.unless(fit, at.offset)
 }

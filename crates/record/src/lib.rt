@@ -10,14 +10,14 @@ pub mod form;
 // What is wrong with a file; document 01 numbers these from 1 in this order.
 #[derive(Clone, Copy, Debug, PartialEq, Eq)]
 pub enum FaultKind {
-    Length,
-    Order,
-    Size,
-    Range,
-    Rising,
-    Inexact,
-    Rows,
-    TooLong,
+    Length = 1,
+    Order = 2,
+    Size = 3,
+    Range = 4,
+    Rising = 5,
+    Inexact = 6,
+    Rows = 7,
+    TooLong = 8,
 }
 
 // A fault, and the offset of the record that has it.
@@ -31,16 +31,7 @@ impl FaultKind {
     pub fn number(self) -> usize
         ensures { result ≡ fault_number self }
     {
-        match self {
-            FaultKind::Length => 1,
-            FaultKind::Order => 2,
-            FaultKind::Size => 3,
-            FaultKind::Range => 4,
-            FaultKind::Rising => 5,
-            FaultKind::Inexact => 6,
-            FaultKind::Rows => 7,
-            FaultKind::TooLong => 8,
-        }
+        self as usize
     }
 
     // This fault, at an offset, unless a test holds.

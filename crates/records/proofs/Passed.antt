@@ -1,5 +1,6 @@
 -- What a record without a fault has passed, and what it then is.
-use Rattle.std.proofs.Common.{◌≡◌, ℕ, suc, ◌+◌, ◌≤◌, List, [], ◌∷◌, Bool, true, false, ◌&&◌, cond, eqb, leb, ltb, Some, None, Ok, refl, sym, ap, subst, ◌∙◌, leb-true, ltb-true}
+use Rattle.std.proofs.lemmas.Bool.{and_parts}
+use Rattle.std.proofs.Common.{◌≡◌, ℕ, suc, ◌+◌, ◌≤◌, List, [], ◌∷◌, true, cond, eqb, leb, ltb, Some, None, Ok, refl, sym, ap, subst, ◌∙◌, leb-true, ltb-true}
 use Rattle.embed.specs.Embed.{Rising}
 use Rattle.fit.specs.Rows.{limit}
 use Rattle.format.specs.declared.Kind.{Kind}
@@ -62,21 +63,17 @@ passed file seen o next e =
       after = ap (λ m. record { group = Some (group_of kind); atoms = atoms; rows = m }) (ap (λ m. seen.rows + m) brings ∙ rows) ∙ told;
     }
 
-both : (a b : Bool) → (a && b) ≡ true → (a ≡ true) × (b ≡ true)
-both true b e = (refl, e)
-both false b e = absurd (cc)
-
 -- all atoms are below n, and rise
 below : (n : ℕ) (atoms : List ℕ) → all_below n atoms ≡ true → AllBelow n atoms
 unfolding all_below
 below n [] e = tt
-below n (a ∷ atoms) e = let p = both (ltb a n) (all_below n atoms) e in (ltb-true a n p.0, below n atoms p.1)
+below n (a ∷ atoms) e = let p = and_parts (ltb a n) (all_below n atoms) e in (ltb-true a n p.0, below n atoms p.1)
 
 rising : (from n : ℕ) (atoms : List ℕ) → rises from atoms ≡ true → AllBelow n atoms → Rising from n atoms
 unfolding rises
 rising from n [] e b = tt
 rising from n (a ∷ atoms) e b =
-    let p = both (leb from a) (rises (suc a) atoms) e in (leb-true from a p.0, b.0, rising (suc a) n atoms p.1 b.1)
+    let p = and_parts (leb from a) (rises (suc a) atoms) e in (leb-true from a p.0, b.0, rising (suc a) n atoms p.1 b.1)
 
 module _ {file : List ℕ} {seen : Seen} {o : ℕ} {next : Seen} (p : Passed file seen o next) where
   is_kind : (k : Kind) → kind_at file o ≡ kind_number k → p.kind ≡ k

@@ -5,21 +5,22 @@ ghost use Rattle.format.specs.Kind.{kind_number};
 ghost use Rattle.format.specs.Format.{kind_at, k_at};
 ghost use Rattle.records.specs.Rows.{brought, rows_after};
 
+use fit::LIMIT;
 use format::{Kind, Record};
 use record::{Fault, FaultKind};
 
 // How many rows a record brings; a table's size is known to be within the limit.
 #[tactic(auto, unfolding(crate::specs::Rows::exact_at, crate::specs::Rows::rows_at))]
-pub fn rows_in(record: Record, kind: Kind) -> Result<usize, Fault>
-    requires named { kind_at record.file.now record.offset ≡ kind_number kind }
-    requires small { kind ≡ Kind.Table → k_at record.file.now record.offset ≤ hull.limit }
-    ensures { result ≡ brought record.entry.file.now record.entry.offset }
+pub fn rows_in(at: Record, kind: Kind) -> Result<usize, Fault>
+    requires named { kind_at at.file.now at.offset ≡ kind_number kind }
+    requires small { kind ≡ Kind.Table → k_at at.file.now at.offset ≤ hull.limit }
+    ensures { result ≡ brought at.entry.file.now at.entry.offset }
 {
     match kind {
         Kind::Row => Ok(1),
         Kind::Table => {
-            let hull = record.table().unwrap();
-            FaultKind::Inexact.unless(hull.exact, record.offset)?;
+            let hull = at.table().unwrap();
+            FaultKind::Inexact.unless(hull.exact, at.offset)?;
             Ok(hull.count)
         }
         _ => Ok(0),
@@ -31,7 +32,7 @@ pub fn add_rows(rows: usize, more: usize, offset: usize) -> Result<usize, Fault>
     ensures { result ≡ rows_after rows more offset }
 {
     rows.checked_add(more)
-        .filter(|all| *all <= 512)
+        .filter(|all| *all <= LIMIT)
         .ok_or(Fault {
             kind: FaultKind::Rows,
             offset,

@@ -12,6 +12,9 @@ use record::{Fault, FaultKind, fields, form};
 mod bring;
 pub mod promises;
 
+// The most bytes of a file.
+pub const FILE_LIMIT: usize = 65536;
+
 // What was seen of the records so far: the group of the last one's kind, the atom count, and the rows.
 #[derive(Clone, Copy)]
 pub struct Seen {
@@ -29,18 +32,18 @@ pub struct Checked {
 
 // The checks of one record, and what is seen with it. Its rows are worked out once, after its form and fields are found fit.
 #[tactic(auto, unfolding(crate::specs::Check::step_of))]
-fn check_record(record: Record, seen: Seen) -> Result<Seen, Fault>
-    ensures { result ≡ step_of record.entry.file.now seen record.entry.offset }
+fn check_record(at: Record, seen: Seen) -> Result<Seen, Fault>
+    ensures { result ≡ step_of at.entry.file.now seen at.entry.offset }
 {
-    form::check_length(record)?;
-    let kind = form::check_kind(seen.group, record)?;
-    form::check_size(record, kind)?;
-    fields::check_range(record, kind, seen.atoms)?;
-    fields::check_rising(record, kind)?;
-    let more = bring::rows_in(record, kind)?;
-    let rows = bring::add_rows(seen.rows, more, record.offset)?;
+    form::check_length(at)?;
+    let kind = form::check_kind(seen.group, at)?;
+    form::check_size(at, kind)?;
+    fields::check_range(at, kind, seen.atoms)?;
+    fields::check_rising(at, kind)?;
+    let more = bring::rows_in(at, kind)?;
+    let rows = bring::add_rows(seen.rows, more, at.offset)?;
     let atoms = match kind {
-        Kind::Atoms => usize::from(record.count()),
+        Kind::Atoms => usize::from(at.count()),
         _ => seen.atoms,
     };
     Ok(Seen {
@@ -61,6 +64,7 @@ fn check_records(file: &[u8]) -> Result<Checked, Fault>
     for record in Records::of(file) {
         seen = check_record(record, seen)?;
     }
+    // By its fields: the group that was seen last is not told.
     Ok(Checked {
         atoms: seen.atoms,
         rows: seen.rows,
@@ -72,7 +76,7 @@ fn check_records(file: &[u8]) -> Result<Checked, Fault>
 pub fn check(file: &[u8]) -> Result<Checked, Fault>
     ensures { result ≡ check_of file.now }
 {
-    FaultKind::TooLong.unless(file.len() <= 65536, 65536)?;
+    FaultKind::TooLong.unless(file.len() <= FILE_LIMIT, FILE_LIMIT)?;
     FaultKind::Order.unless(!file.is_empty(), 0)?;
     check_records(file)
 }

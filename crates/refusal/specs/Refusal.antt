@@ -35,8 +35,3 @@ left (Err refusal) made was = was
 abbrev pub number_in : {A : Type 0} → Result A Refusal → ℕ
 number_in (Ok answer) = 0
 number_in (Err refusal) = number_of refusal
-
--- What a call gives, or else this.
-abbrev pub given_or : {A : Type 0} → Result A Refusal → A → A
-given_or (Ok answer) other = answer
-given_or (Err refusal) other = other

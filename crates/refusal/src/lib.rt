@@ -4,29 +4,29 @@
 ghost use Rattle.std.specs.Prelude.{◌≡◌};
 ghost use Rattle.refusal.specs.Refusal.{number_of};
 
-// Why a call is refused: what it is lent or asked is unfit.
+// Why a call is refused: what it is lent or asked is unfit. Each has document 01's number.
 #[derive(Clone, Copy, Debug, PartialEq, Eq)]
 pub enum Refusal {
     // A lent buffer is too short.
-    Short,
-    // There are over 512 atoms or rows.
-    Overfull,
+    Short = 9,
+    // There are over 512 atoms or rows, or the rank is above 512.
+    Overfull = 10,
     // A bit stands at or above n, or a constant above 1.
-    Stray,
+    Stray = 11,
     // An atom is held and cut.
-    Clash,
+    Clash = 12,
     // The rank is above min(m, n), or a basis entry names no row.
-    Basis,
+    Basis = 13,
     // An index bit stands at or above the rank.
-    Index,
+    Index = 14,
     // Atom counts differ.
-    Unequal,
+    Unequal = 15,
     // Old decisions are missing from the region.
-    Missing,
+    Missing = 16,
     // A table has k above 8 or the wrong length.
-    Table,
+    Table = 17,
     // An atom is not below n.
-    Atom,
+    Atom = 18,
 }
 
 impl Refusal {
@@ -34,17 +34,6 @@ impl Refusal {
     pub fn number(self) -> usize
         ensures { result ≡ number_of self }
     {
-        match self {
-            Refusal::Short => 9,
-            Refusal::Overfull => 10,
-            Refusal::Stray => 11,
-            Refusal::Clash => 12,
-            Refusal::Basis => 13,
-            Refusal::Index => 14,
-            Refusal::Unequal => 15,
-            Refusal::Missing => 16,
-            Refusal::Table => 17,
-            Refusal::Atom => 18,
-        }
+        self as usize
     }
 }

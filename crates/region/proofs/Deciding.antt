@@ -1,6 +1,6 @@
--- `number`, `decide_number` and `decide`, by the value v that an atom is given: the answer by which of the two masks has it.
--- And the words of a region with nothing decided.
-use Prim.Native.Nat.{ℕ, zero, suc, ◌/◌, ◌%◌, ◌^◌, ◌≤◌, ◌<◌}
+-- The checks of a region and of a decision one after the other; a decision, by the value v that the atom is given: the answer by which of the two
+-- masks has it. And the words of a region with nothing decided.
+use Prim.Native.Nat.{ℕ, zero, suc, ◌/◌, ◌%◌, ◌^◌, ◌<◌}
 use mathlib.Core.Path.{◌≡◌, refl, sym, ap, ap₂, ◌∙◌}
 use mathlib.Core.List.{List, map}
 use mathlib.Core.Bool.{Bool, true, false, cond, not, ◌&&◌, ◌||◌, beq, and_comm, or-false, true≢false}
@@ -18,20 +18,19 @@ use Rattle.words.specs.Set.{set_of, has}
 use Rattle.words.specs.Calls.{inserted}
 use Rattle.words.proofs.Meaning.{set_inserted, insert_adds}
 use Rattle.rows.specs.Flat.{mask_of, unpack}
-use Rattle.rows.specs.Decisions.{Decisions}
 use Rattle.rows.specs.declared.Atom.{Atom}
 use Rattle.refusal.specs.Refusal.{answered, left}
 use Rattle.refusal.specs.declared.Refusal.{Refusal}
 use Rattle.refusal.specs.declared.Refusal.TheVariants.{Overfull, Stray, Clash, Atom as NoAtom}
-use Rattle.fit.proofs.Among.{or_right}
+use Rattle.std.proofs.lemmas.Bool.{or_right}
 use Rattle.region.specs.Masks.{decision, decisions, is_held, is_cut, region_of}
 use Rattle.region.specs.Visit.{next_of}
-use Rattle.region.specs.Calls.{strayed, clashes, region_check, decide_check, decided}
+use Rattle.region.specs.Calls.{strayed, clashes, region_check, decide_check, decided, decide_of}
 use Rattle.region.specs.declared.Region.{Region}
 use Rattle.region.specs.declared.Answer.{Answer}
 use Rattle.region.specs.declared.Answer.TheVariants.{Taken, Same, Against}
 use Rattle.region.proofs.Nexts.{above_next}
-use Rattle.region.proofs.Masked.{Fitting, Eight, fitting_back, decisions_length, decision_at, decide_fitting, decide_fits, decisions_back}
+use Rattle.region.proofs.Masked.{Fitting, Eight, fitting_back, decisions_length, decision_at, decide_fitting}
 
 -- the mask of the atoms that have the value v
 abbrev pub mask_at : Bool → Region → List ℕ
@@ -129,20 +128,8 @@ decide_is r a = each (ltb 512 r.atoms) (strayed r) (clashes r) (cond (leb r.atom
     each false false false k = refl
 
 -- an answer that is no refusal, and the region with it
-abbrev pub said : Region → Answer → Result (Answer × Region) Refusal
-said r answer = Ok (answer, r)
-
--- a decision, by what is decided
-abbrev pub settled : Bool → Region → Atom → Result (Answer × Region) Refusal
-settled v r a = answered (decide_check r a) (decided (decisions r) a.0 v (get_or (decisions r) a.0 none))
-
--- on a region that is known by what is decided
-pub settled_known : (v : Bool) (p : Decisions) → length p ≤ 512 → (a : Atom) → a.0 < length p
-    → settled v (region_of p) a ≡ Ok (decided p a.0 v (get_or p a.0 none))
-settled_known v p few a h =
-    let r = region_of p in
-    ap (λ check. answered check (decided (decisions r) a.0 v (get_or (decisions r) a.0 none))) (decide_fits p few a h)
-    ∙ ap (λ (q : Decisions). Ok (decided q a.0 v (get_or q a.0 none))) (decisions_back p few)
+abbrev pub said : Region → Answer → Result Answer Refusal × Region
+said r answer = (Ok answer, r)
 
 module _ (r : Region) (a : Atom) (e1 : decide_check r a ≡ Ok tt) where
   fits : Fitting r
@@ -155,17 +142,19 @@ module _ (r : Region) (a : Atom) (e1 : decide_check r a ≡ Ok tt) where
   word_in = omega (arith, inside, fits.few)
 
   module _ (eight : Eight r) where
-    found : (v : Bool) (d : Option Bool) → now r a.0 ≡ d → settled v r a ≡ Ok (decided (decisions r) a.0 v d)
-    found v d e = ap (λ check. answered check (decided (decisions r) a.0 v (get_or (decisions r) a.0 none))) e1 ∙ ap (λ o. Ok (decided (decisions r) a.0 v o)) (decision_at r a.0 inside ∙ e)
+    found : (v : Bool) (d : Option Bool) → now r a.0 ≡ d → decide_of v r a ≡ said (decided (decisions r) a.0 v d).1 (decided (decisions r) a.0 v d).0
+    found v d e =
+        ap (λ check. let d = decided (decisions r) a.0 v (get_or (decisions r) a.0 none) in (answered check d.0, left check d.1 r)) e1
+        ∙ ap (λ o. let d = decided (decisions r) a.0 v o in said d.1 d.0) (decision_at r a.0 inside ∙ e)
 
-    pub same : (v : Bool) → has (set_of (mask_at v r)) a.0 ≡ true → said r Same ≡ settled v r a
+    pub same : (v : Bool) → has (set_of (mask_at v r)) a.0 ≡ true → said r Same ≡ decide_of v r a
     same v e = sym (found v (some v) (is_some r a.0 v fits e) ∙ ap₂ said (fitting_back r eight fits) (equal v))
       where
         equal : (v : Bool) → cond (beq v v) Same Against ≡ Same
         equal true = refl
         equal false = refl
 
-    pub against : (v : Bool) → has (set_of (mask_at (not v) r)) a.0 ≡ true → said r Against ≡ settled v r a
+    pub against : (v : Bool) → has (set_of (mask_at (not v) r)) a.0 ≡ true → said r Against ≡ decide_of v r a
     against v e = sym (found v (some (not v)) (is_some r a.0 (not v) fits e) ∙ ap₂ said (fitting_back r eight fits) (unequal v))
       where
         unequal : (v : Bool) → cond (beq (not v) v) Same Against ≡ Against
@@ -235,7 +224,7 @@ module _ (r : Region) (a : Atom) (e1 : decide_check r a ≡ Ok tt) where
             ∙ sym (get_or-set_other (decisions r) a.0 i (some v) none (eqb-false i a.0 s))
 
     pub taken : (v : Bool) → has (set_of (mask_at v r)) a.0 ≡ false → has (set_of (mask_at (not v) r)) a.0 ≡ false
-        → said (taking v r a.0) Taken ≡ settled v r a
+        → said (taking v r a.0) Taken ≡ decide_of v r a
     taken v e d =
         let back : region_of (set (decisions r) a.0 (some v)) ≡ taking v r a.0 =
         ap region_of (sym (decisions_taking v d)) ∙ fitting_back (taking v r a.0) (eight_taking v) (fits_taking v d) in

@@ -21,7 +21,7 @@ use Rattle.rows.proofs.Digits.{atoms_length, atoms_has, atoms_mask, mask_lt, pac
 use Rattle.rows.proofs.Rowwise.{zip_length, mask_has}
 use Rattle.std.specs.Prelude.{Ok}
 use Rattle.refusal.specs.Refusal.{answered, left}
-use Rattle.fit.proofs.Among.{or_none}
+use Rattle.std.proofs.lemmas.Bool.{or_parts}
 use Rattle.fit.proofs.Fitting.{passed}
 use Rattle.region.specs.Masks.{decision, decisions_of, decisions, is_held, is_cut, region_of}
 use Rattle.region.specs.Calls.{strayed, clashes, region_check, decide_check, decided, decide_of}
@@ -93,7 +93,7 @@ unfolding region_check
 fitting r e =
     let atoms = passed (ltb 512 r.atoms) _ _ e in
     let stray = passed (strayed r) _ _ atoms.1 in
-    let below = or_none _ _ stray.0 in
+    let below = or_parts _ _ stray.0 in
     let none : bit_and (set_of r.held) (set_of r.cut) ≡ 0 = eqb-true _ 0 (not-false _ (passed (clashes r) _ _ stray.1).0) in
     record {
       few = ltb-false 512 r.atoms atoms.0;

@@ -2,15 +2,13 @@
 // Every call is total: an unfit region, or an atom not below n, is refused with document 01's number and comes back as passed.
 #![tactic(auto)]
 
-ghost use Rattle.std.specs.Prelude.{◌≡◌, ◌-◌, cond, not, get_or, eqb};
-ghost use Rattle.std.proofs.Math.Option.{none};
+ghost use Rattle.std.specs.Prelude.{◌≡◌, ◌-◌, cond, not, eqb};
 ghost use Rattle.std.specs.Iterator.{at_most};
 ghost use Rattle.std.specs.Int.Bits.{bit_and};
 ghost use Rattle.words.specs.Set.{set_of};
-ghost use Rattle.refusal.specs.Refusal.{answered};
 ghost use Rattle.region.specs.Masks.{decisions};
 ghost use Rattle.region.specs.Visit.{next_of, Visits};
-ghost use Rattle.region.specs.Calls.{region_check, decide_check, undecided_of, decided, hold_of, cut_of};
+ghost use Rattle.region.specs.Calls.{region_check, decide_check, undecided_of, decide_of, hold_of, cut_of};
 
 use fit::LIMIT;
 use refusal::Refusal;
@@ -42,7 +40,8 @@ pub fn mask<'a>(held: &'a [u64], cut: &'a [u64], value: bool) -> &'a [u64]
     if value { held } else { cut }
 }
 
-// The lowest atom from `from` on in a mask of eight words, if it has one.
+// The lowest atom from `from` on in a mask of eight words, if it has one. (By place: what `words::first` finds in the words left over would have
+// to be moved up by a place that the proof first bounds, which is longer.)
 pub fn next(mask: &[u64; 8], from: usize) -> Option<usize>
     ensures { result ≡ next_of (set_of mask.now) from }
 {
@@ -151,42 +150,41 @@ impl Region {
         Ok(())
     }
 
-    // An atom settled as true or false: what becomes of the decision, and the region with it.
-    fn decided(mut self, atom: Atom, value: bool) -> Result<(Answer, Region), Refusal>
-        ensures { result ≡ answered (decide_check self atom) (decided (decisions self) atom.0 value (get_or (decisions self) atom.0 none)) }
+    // Settles an atom as true or false: what becomes of the decision, and the region with it. A refused decision, or one that is against, alters
+    // nothing.
+    fn decide(mut self, atom: Atom, value: bool) -> (Result<Answer, Refusal>, Region)
+        ensures { result ≡ decide_of value self atom }
     {
-        self.check_decision(atom)?;
+        if let Err(refusal) = self.check_decision(atom) {
+            return (Err(refusal), self);
+        }
         if words::contains(mask(&self.held, &self.cut, value), atom.0) {
-            return Ok((Answer::Same, self));
+            return (Ok(Answer::Same), self);
         }
         if words::contains(mask(&self.held, &self.cut, !value), atom.0) {
-            return Ok((Answer::Against, self));
+            return (Ok(Answer::Against), self);
         }
         if value {
             words::insert(&mut self.held, atom.0);
         } else {
             words::insert(&mut self.cut, atom.0);
         }
-        Ok((Answer::Taken, self))
+        (Ok(Answer::Taken), self)
     }
 
-    // Settles an atom as true. A refused decision, or one that is against, alters nothing.
+    // Settles an atom as true.
     #[tactic(auto, unfolding(crate::specs::Calls::hold_of))]
-    pub fn hold(&mut self, atom: Atom) -> Result<Answer, Refusal>
-        ensures { (result, self.new) ≡ hold_of self.old atom }
+    pub fn hold(self, atom: Atom) -> (Result<Answer, Refusal>, Region)
+        ensures { result ≡ hold_of self atom }
     {
-        let (answer, region) = self.decided(atom, true)?;
-        *self = region;
-        Ok(answer)
+        self.decide(atom, true)
     }
 
     // Settles an atom as false.
     #[tactic(auto, unfolding(crate::specs::Calls::cut_of))]
-    pub fn cut(&mut self, atom: Atom) -> Result<Answer, Refusal>
-        ensures { (result, self.new) ≡ cut_of self.old atom }
+    pub fn cut(self, atom: Atom) -> (Result<Answer, Refusal>, Region)
+        ensures { result ≡ cut_of self atom }
     {
-        let (answer, region) = self.decided(atom, false)?;
-        *self = region;
-        Ok(answer)
+        self.decide(atom, false)
     }
 }

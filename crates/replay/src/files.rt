@@ -59,6 +59,7 @@ impl Run {
         self.values = [7; 512];
     }
 
+    // Region and knowledge as `lines` has them after an inspection; there the forced list is dropped with its arrays, here it is compared.
     fn inspect(&mut self, system: System, memory: &Memory) {
         let said = inspect::inspect(
             system,
@@ -82,12 +83,8 @@ impl Run {
     fn call(&mut self, call: Call, system: System, memory: &Memory) {
         self.clear();
         match call {
-            Call::Cut(atom) => {
-                let _ = self.region.cut(atom);
-            }
-            Call::Hold(atom) => {
-                let _ = self.region.hold(atom);
-            }
+            Call::Cut(atom) => self.region = self.region.cut(atom).1,
+            Call::Hold(atom) => self.region = self.region.hold(atom).1,
             Call::Inspect => self.inspect(system, memory),
             Call::Probe => {}
         }

@@ -15,9 +15,9 @@ fn told(said: Result<Hull, Refusal>) -> [usize; 19] {
     };
     numbers[1] = hull.count;
     numbers[2] = usize::from(hull.exact);
-    for (i, e) in hull.equations.iter().enumerate() {
-        numbers[3 + i * 2] = usize::from(e.coefficients);
-        numbers[4 + i * 2] = usize::from(e.constant);
+    for (pair, e) in numbers[3..].chunks_exact_mut(2).zip(&hull.equations) {
+        pair[0] = usize::from(e.coefficients);
+        pair[1] = usize::from(e.constant);
     }
     numbers
 }

@@ -3,6 +3,7 @@
 ghost use Rattle.std.specs.Prelude.{◌≤◌, length};
 
 // What is left of the recording, and whether all so far is as recorded. What is read past the end is 0, and is not.
+// A flag and no Result: a case that differs is only counted, and each of some thirty reads and comparisons would have to hand one on.
 #[derive(Drop)]
 pub struct Tape<'a> {
     rest: &'a [u8],

@@ -3,6 +3,7 @@ pub mod Places
 pub mod Adding
 pub mod Odd
 pub mod Flips
+pub mod Constants
 pub mod Counting
 pub mod Plus
 pub mod Sums

@@ -1,6 +1,6 @@
 -- Where a row lies in flat words: inside them or not, and its words.
-use Prim.Native.Nat.{ℕ, ◌+◌, ◌*◌, ◌/◌, ◌≤◌, ◌<◌}
-use mathlib.Core.Path.{◌≡◌, refl, sym}
+use Prim.Native.Nat.{ℕ, ◌+◌, ◌-◌, ◌*◌, ◌/◌, ◌≤◌, ◌<◌}
+use mathlib.Core.Path.{◌≡◌, refl, sym, ◌∙◌}
 use mathlib.Core.List.{List}
 use mathlib.Core.Bool.{Bool, true, false}
 use native.Mathlib.Nat.{le-div_iff_mul-le, div-lt_iff_lt-mul}
@@ -17,6 +17,14 @@ rows_within w r n h = go (leb r (n / w)) refl
     go : (t : Bool) → leb r (n / w) ≡ t → t ≡ leb (r * w) n
     go true e = sym (le-leb (r * w) n ((le-div_iff_mul-le h).0 (leb-true r (n / w) e)))
     go false e = sym (lt-leb (r * w) n ((div-lt_iff_lt-mul h).0 (leb-false r (n / w) e)))
+
+-- so do f and c more, where c do
+pub parts_within : (w f c n : ℕ) → 0 < w → c ≤ n / w → leb f (n / w - c) ≡ leb ((f + c) * w) n
+parts_within w f c n h l = go (leb f (n / w - c)) refl ∙ rows_within w (f + c) n h
+  where
+    go : (t : Bool) → leb f (n / w - c) ≡ t → t ≡ leb (f + c) (n / w)
+    go true e = sym (le-leb _ _ (let few = leb-true f (n / w - c) e in omega arith))
+    go false e = sym (lt-leb _ _ (let more = leb-false f (n / w - c) e in omega arith))
 
 -- ---- a row's words
 

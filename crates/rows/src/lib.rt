@@ -1,5 +1,6 @@
 // Rows of parity equations in flat lent words: row r at r·W words of the rows, its constant at byte r of the constants.
-// Every call is total: where a row, a constant or a mask does not lie within what is lent, nothing is changed and the answer says so.
+// Every call is total: where a row, a constant or a mask does not lie within what is lent, nothing is changed and the answer says so. Rows,
+// constants and their width are passed one by one, as C lends them; `echelon`, which works on them for long, has a struct of them.
 #![tactic(auto)]
 
 ghost use Rattle.std.specs.Prelude.{◌≡◌, cond, ◌&&◌, ◌+◌, ◌*◌, ◌≤◌, ◌<◌, length, leb, ltb};
@@ -49,11 +50,16 @@ pub fn source_at(basis: &[usize], place: Ordinal) -> Option<Source>
     Some(Source(*number))
 }
 
-// Whether the part of `width` words at a place lies within so many words. A quotient cannot wrap, where the part's place could.
-fn lies_within(words: usize, width: usize, place: usize) -> bool
-    ensures { result ≡ leb (place * width + width) words }
+// Whether `count` parts of `width` words from part `first` on lie within so many words. Quotients cannot wrap, where the end of the
+// parts could.
+#[tactic(auto, using(crate::proofs::Places::rows_within, crate::proofs::Places::parts_within))]
+pub fn lie_within(words: usize, width: usize, first: usize, count: usize) -> bool
+    ensures { result ≡ leb ((first + count) * width) words }
 {
-    width == 0 || place < words / width
+    let Some(whole) = words.checked_div(width) else {
+        return true;
+    };
+    count <= whole && first <= whole - count
 }
 
 // The part of `width` words at a place, the parts counted from 0, if it lies within.
@@ -61,7 +67,7 @@ fn lies_within(words: usize, width: usize, place: usize) -> bool
 pub fn part(words: &[u64], width: usize, place: usize) -> Option<&[u64]>
     ensures { option_copied result ≡ part_of width words.now place }
 {
-    if !lies_within(words.len(), width, place) {
+    if !lie_within(words.len(), width, place, 1) {
         return None;
     }
     let start = place * width;
@@ -107,7 +113,8 @@ pub fn overlaps_odd(rows: &[u64], width: usize, number: Source, mask: &[u64]) ->
     overlap_parity(rows, width, number, mask).unwrap_or(false)
 }
 
-// How many of the mask's atoms the row has.
+// How many of the mask's atoms the row has. (Three lines as above over another call of `words`: a function of that call would say more in its
+// contract than they do.)
 #[tactic(auto, unfolding(crate::specs::Calls::part_of, crate::specs::Calls::overlap_count_of, words::specs::Calls::intersection_of))]
 pub fn overlap_count(
     rows: &[u64],
@@ -126,7 +133,7 @@ pub fn overlap_count(
 fn can_add(words: usize, constants: usize, width: usize, target: Source, source: Source) -> bool
     ensures { result ≡ (ltb source.0 target.0 && (ltb target.0 constants && leb (target.0 * width + width) words)) }
 {
-    source.0 < target.0 && target.0 < constants && lies_within(words, width, target.0)
+    source.0 < target.0 && target.0 < constants && lie_within(words, width, target.0, 1)
 }
 
 // Adds the words of an earlier row to a later one.
@@ -140,7 +147,8 @@ fn add_words(rows: &mut [u64], width: usize, target: Source, source: Source)
     words::xor_assign(&mut later[..width], &earlier[start..start + width]);
 }
 
-// Adds an earlier row to a later one in place, constants too, and says whether it could.
+// Adds an earlier row to a later one in place, constants too, and says whether it could: yes or no and no Result, since there is nothing to answer
+// with.
 #[tactic(auto, unfolding(crate::specs::Calls::added_constants))]
 pub fn add(
     rows: &mut [u64],

@@ -3,13 +3,13 @@ use Prim.Native.Nat.{ℕ, ◌*◌, ◌≤◌, min}
 use native.Mathlib.Omega.{arith}
 use mathlib.Core.Path.{◌≡◌, refl, ap, ◌∙◌}
 use mathlib.Core.List.{List}
-use mathlib.Core.Bool.{Bool, true, false, cond, not, ◌&&◌, true≢false, false≢true}
+use mathlib.Core.Bool.{Bool, true, false, cond, not, ◌&&◌, false≢true}
 use borrow.Author.Tests.{ltb-false, le-ltb}
 use lib.ListN.{length}
 use lib.Dec.{leb, ltb, eqb}
 use Rattle.rows.specs.declared.Atom.{Atom}
 use Rattle.fit.specs.Rows.{overfull}
-use Rattle.fit.proofs.Among.{or_none}
+use Rattle.std.proofs.lemmas.Bool.{or_parts}
 use Rattle.std.specs.Prelude.{Ok, Err}
 use Rattle.refusal.specs.Refusal.{number_in}
 use Rattle.refusal.specs.declared.Refusal.TheVariants.{Index, Unequal, Missing, Atom as NoAtom}
@@ -37,9 +37,9 @@ pub record Limits (s : System) (r : Region) : Type 0 where
 
 pub limits : (s : System) (r : Region) (known : Snapshot) → overfull_by s r known ≡ false → Limits s r
 limits s r known e =
-    let both = or_none (overfull s.atoms s.rows) _ e in
-    let system = or_none (ltb 512 s.atoms) (ltb 512 s.rows) both.0 in
-    let others = or_none (ltb 512 r.atoms) (known.initialized && ltb 512 known.atoms) both.1 in
+    let both = or_parts (overfull s.atoms s.rows) _ e in
+    let system = or_parts (ltb 512 s.atoms) (ltb 512 s.rows) both.0 in
+    let others = or_parts (ltb 512 r.atoms) (known.initialized && ltb 512 known.atoms) both.1 in
     record {
       atoms = ltb-false 512 s.atoms system.0;
       rows = ltb-false 512 s.rows system.1;

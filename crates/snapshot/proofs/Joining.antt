@@ -1,13 +1,15 @@
 -- A set with the atoms of a column joined to it, word by word as far as both go.
 use Prim.Native.Nat.{ℕ, zero, suc, ◌/◌, ◌%◌, ◌≤◌, ◌<◌}
 use mathlib.Core.Path.{◌≡◌, refl, sym, ap, ap₂, ◌∙◌}
-use mathlib.Core.List.{List, [], ◌∷◌}
+use mathlib.Core.List.{List, [], ◌∷◌, ◌++◌}
 use mathlib.Core.Bool.{◌||◌}
 use native.Mathlib.Omega.{arith}
-use lib.ListN.{length, get_or, get_or-eq_default}
+use lib.ListN.{length, get_or, take, drop, get_or-eq_default}
 use lib.Bits.{bit_or, or_zero_r}
+use lib.Seq.{length-take-le}
 use Rattle.words.specs.Set.{set_of, has}
-use Rattle.words.proofs.Merged.{up_to}
+use Rattle.words.specs.Calls.{merged}
+use Rattle.words.proofs.Merged.{up_to, up_to_part, up_to_all, merged_all}
 use Rattle.words.proofs.Meaning.{atom_is_bit, has_or}
 
 -- one word, where the shorter list is used up
@@ -25,3 +27,10 @@ pub joined_has : (l r : List ℕ) (i a : ℕ) → i ≤ length r → a / 64 < le
 joined_has l r i a hr ha past =
     atom_is_bit (up_to bit_or i l r) a ∙ ap (λ (w : ℕ). has w (a % 64)) (joined_word bit_or or_zero_r l r i (a / 64) hr ha past)
     ∙ has_or (get_or l (a / 64) 0) (get_or r (a / 64) 0) (a % 64) ∙ sym (ap₂ ◌||◌ (atom_is_bit l a) (atom_is_bit r a))
+
+-- the first words joined, and the rest after them
+pub joined_part : (l r : List ℕ) (n : ℕ) → n ≤ length l → n ≤ length r → (l' : List ℕ) → l' ≡ merged bit_or (take n l) (take n r) → l' ++ drop n l ≡ up_to bit_or n l r
+joined_part l r n hl hr l' is =
+    let same : length (take n l) ≡ length (take n r) = length-take-le n l hl ∙ sym (length-take-le n r hr) in
+    let whole = sym (merged_all bit_or (take n l) (take n r) same (length (take n l)) _ refl refl) ∙ up_to_all bit_or (take n l) (take n r) same in
+    ap (λ (m : List ℕ). m ++ drop n l) (is ∙ whole) ∙ sym (up_to_part bit_or n l r hl hr)

@@ -4,7 +4,7 @@ use Prim.Native.Nat.{ℕ, zero, suc, ◌*◌, ◌≤◌, ◌<◌, min}
 use mathlib.Core.Path.{◌≡◌, refl, sym, ap, ap₂, ◌∙◌}
 use mathlib.Core.Logic.{◌↔◌}
 use mathlib.Core.List.{List, []}
-use mathlib.Core.Bool.{Bool, true, false, cond, not, xor, ◌&&◌, ◌||◌, and-eq-true_iff, true≢false, false≢true}
+use mathlib.Core.Bool.{Bool, true, false, not, xor, ◌&&◌, ◌||◌, and-eq-true_iff, true≢false, false≢true}
 use mathlib.Core.Option.{none}
 use native.Mathlib.Omega.{arith}
 use borrow.Author.Tests.{ltb-true, ltb-false, lt-ltb, eqb-true, not-true, not-false}
@@ -18,7 +18,8 @@ use Rattle.rows.specs.Flat.{row}
 use Rattle.rows.specs.Calls.{part_of}
 use Rattle.rows.specs.declared.Atom.{Atom}
 use Rattle.fit.specs.Rows.{overfull}
-use Rattle.fit.proofs.Among.{or_none, any_found}
+use Rattle.std.proofs.lemmas.Bool.{or_parts}
+use Rattle.fit.proofs.Among.{any_found}
 use Rattle.std.specs.Prelude.{Ok}
 use Rattle.refusal.specs.Refusal.{left}
 use Rattle.fit.proofs.Fitting.{passed}
@@ -94,8 +95,8 @@ follows s index r known init e =
     let bits = passed (not s.refuted && over_rank s.rank (column_width s.rank) index s.atoms) _ _ clash.1 in
     let counts = passed (unequal s r known) _ _ bits.1 in
     let kept = (passed (missing r known) _ _ counts.1).0 in
-    let few = (or_none (ltb 512 r.atoms) _ (or_none (overfull s.atoms s.rows) _ full.0).1).0 in
-    let equal = or_none (not (eqb r.atoms s.atoms)) _ counts.0 in
+    let few = (or_parts (ltb 512 r.atoms) _ (or_parts (overfull s.atoms s.rows) _ full.0).1).0 in
+    let equal = or_parts (not (eqb r.atoms s.atoms)) _ counts.0 in
     let held = subset (set_of known.held) (set_of r.held) in
     let cut = subset (set_of known.cut) (set_of r.cut) in
     let both = (and-eq-true_iff held cut).0 (not-false (held && cut) (and_none _ _ kept init)) in

@@ -1,14 +1,14 @@
 -- The basis rows that decisions touch. Place j of a list is ordinal j.
-use Rattle.std.specs.Prelude.{ℕ, zero, suc, ◌*◌, min, List, [], ◌∷◌, Bool, false, not, ◌&&◌, ◌||◌, length, ltb, unwrap_or, Result}
+use Rattle.std.specs.Prelude.{ℕ, zero, suc, ◌*◌, min, List, [], ◌∷◌, Bool, false, not, ◌&&◌, ◌||◌, length, ltb, eqb, unwrap_or, Result}
 use Rattle.std.specs.Bool.{xor}
 use Rattle.words.specs.Set.{set_of, has}
 use Rattle.rows.specs.Flat.{mask_of, unpack}
 use Rattle.rows.specs.Calls.{part_of}
-use Rattle.refusal.specs.Refusal.{checked, answered}
+use Rattle.refusal.specs.Refusal.{checked, answered, number_in}
 use Rattle.refusal.specs.declared.Refusal.{Refusal}
 use Rattle.refusal.specs.declared.Refusal.TheVariants.{Short, Overfull, Stray, Clash, Basis, Index, Unequal, Missing}
 use Rattle.index.specs.Index.{column_width}
-use Rattle.index.specs.Column.{over_rank}
+use Rattle.index.specs.Column.{over_rank, column_check}
 use Rattle.parity.specs.declared.System.{System}
 use Rattle.region.specs.declared.Region.{Region}
 use Rattle.region.specs.Calls.{strayed, clashes}
@@ -44,6 +44,15 @@ touched_of rank index r known =
 -- Rows as a set of ordinals in eight words.
 unfoldable pub ordinals_of : List Bool → Ordinals
 ordinals_of rows = record { words = unpack 64 8 (mask_of rows) }
+
+-- 14 as `index` tells it, 15 and 16: the last checks of the calls that are lent an index.
+abbrev pub last_check : System → List ℕ → Region → Snapshot → Result Unit Refusal
+last_check s index r known =
+    checked (
+    (Index, not s.refuted && eqb (number_in (column_check index s.atoms s.rank (record { 0 = 0 }))) 14) ∷
+    (Unequal, unequal s r known) ∷
+    (Missing, missing r known) ∷
+    [])
 
 -- 10, "13: rank above min(m, n)", "9: .. index n columns", 11 and 12 of the region, 14 "not checked where the system is refuted", 15, 16
 unfoldable pub touched_check : System → List ℕ → Region → Snapshot → Result Unit Refusal

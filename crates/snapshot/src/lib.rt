@@ -7,9 +7,9 @@ ghost use Rattle.words.specs.Set.{set_of, has, subset};
 ghost use Rattle.rows.specs.Flat.{unpack};
 ghost use Rattle.refusal.specs.Refusal.{number_in};
 ghost use Rattle.index.specs.Column.{column_check};
-ghost use Rattle.snapshot.specs.Knowledge.{fresh, publish_of, overfull_by, unequal, missing};
+ghost use Rattle.snapshot.specs.Knowledge.{fresh, published, publish_of, overfull_by, unequal, missing};
 ghost use Rattle.snapshot.specs.Steps.{Adds};
-ghost use Rattle.snapshot.specs.Touch.{marks, touched_of, ordinals_of, touched_check, selected_of};
+ghost use Rattle.snapshot.specs.Touch.{marks, touched_of, ordinals_of, last_check, touched_check, selected_of};
 
 use fit::LIMIT;
 use parity::System;
@@ -37,6 +37,20 @@ pub struct Ordinals {
     pub words: [u64; 8],
 }
 
+impl From<Region> for Snapshot {
+    ghost from_gives = { λ region known. known ≡ published region };
+
+    fn from(region: Region) -> Snapshot {
+        let Region { atoms, held, cut } = region;
+        Snapshot {
+            initialized: true,
+            atoms,
+            held,
+            cut,
+        }
+    }
+}
+
 // Whether each atom of one mask is in the other.
 fn within<'a>(left: &'a [u64; 8], right: &'a [u64; 8]) -> bool
     ensures { result ≡ subset (set_of left.now) (set_of right.now) }
@@ -59,17 +73,13 @@ impl Snapshot {
 
     // Publishes a region: "it sets the count to n". A region that is refused alters nothing.
     #[tactic(auto, unfolding(crate::specs::Knowledge::publish_of))]
-    pub fn publish(&mut self, region: Region) -> Result<(), Refusal>
-        ensures { (result, self.new) ≡ publish_of self.old region }
+    pub fn publish(self, region: Region) -> (Result<(), Refusal>, Snapshot)
+        ensures { result ≡ publish_of self region }
     {
-        region.check()?;
-        *self = Snapshot {
-            initialized: true,
-            atoms: region.atoms,
-            held: region.held,
-            cut: region.cut,
-        };
-        Ok(())
+        match region.check() {
+            Ok(()) => (Ok(()), Snapshot::from(region)),
+            refused => (refused, self),
+        }
     }
 
     // Whether the knowledge or the region is of more than 512 atoms, or the system of more than 512 atoms or rows.
@@ -95,6 +105,22 @@ impl Snapshot {
     {
         self.initialized && !(within(&self.held, &region.held) && within(&self.cut, &region.cut))
     }
+
+    // The last checks of a call that is lent an index.
+    pub fn check_last(self, system: System, index: &[u64], region: Region) -> Result<(), Refusal>
+        ensures { result ≡ last_check system index.now region self }
+    {
+        if past_rank(system, index) {
+            return Err(Refusal::Index);
+        }
+        if self.unequal(system, region) {
+            return Err(Refusal::Unequal);
+        }
+        if self.missing(region) {
+            return Err(Refusal::Missing);
+        }
+        Ok(())
+    }
 }
 
 // The bits below `count` of a word.
@@ -118,14 +144,12 @@ fn keep_below(rows: &mut [u64], rank: usize)
     }
 }
 
-// Adds the rows that a column marks, as far as the words for them go. (By place: after `iter_mut` with `zip` a proof knows nothing of what was
-// written.)
+// Adds the rows that a column marks, as far as the words for them go.
 fn join(rows: &mut [u64], column: &[u64])
     ensures { Adds rows.old (has (set_of column.now)) rows.new }
 {
-    for i in 0..rows.len().min(column.len()) {
-        rows[i] |= column[i];
-    }
+    let both = rows.len().min(column.len());
+    words::union_assign(&mut rows[..both], &column[..both]);
 }
 
 // Adds the rows that the columns of the atoms below n mark, as far as the index has them.
@@ -192,16 +216,7 @@ fn check(system: System, index: &[u64], region: Region, known: Snapshot) -> Resu
         return Err(Refusal::Short);
     }
     region.check()?;
-    if past_rank(system, index) {
-        return Err(Refusal::Index);
-    }
-    if known.unequal(system, region) {
-        return Err(Refusal::Unequal);
-    }
-    if known.missing(region) {
-        return Err(Refusal::Missing);
-    }
-    Ok(())
+    known.check_last(system, index, region)
 }
 
 // The basis rows that are touched, or the refusal.

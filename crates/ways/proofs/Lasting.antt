@@ -1,6 +1,6 @@
 -- What lasts over a list of calls: among the assignments that meet the basis rows, those that agree with the region are those that agree with
 -- the decisions accepted from the caller.
-use Prim.Native.Nat.{ℕ, zero, suc, ◌≤◌}
+use Prim.Native.Nat.{ℕ, suc, ◌≤◌}
 use mathlib.Core.Path.{◌≡◌, refl, sym, ap, ap₂, ◌∙◌}
 use mathlib.Core.List.{List, [], ◌∷◌}
 use mathlib.Core.Bool.{Bool, true, false, cond, ◌&&◌, beq, and-true, and_assoc}

@@ -7,14 +7,14 @@ use mathlib.Core.Option.{Option, none}
 use native.Mathlib.Omega.{arith}
 use borrow.Author.Tests.{le-ltb}
 use lib.ListN.{length, length-replicate}
+use Rattle.std.specs.Result.{result_unwrap_or}
 use Rattle.rows.specs.Row.{Row, Assignment, meets_all}
 use Rattle.rows.specs.Count.{count}
 use Rattle.rows.specs.Decisions.{agrees, undecided}
 use Rattle.rows.proofs.Counting.{count_ext, count_none}
 use Rattle.echelon.proofs.Sorted.{free, free_agrees}
-use Rattle.std.specs.Prelude.{Result, Ok}
-use Rattle.refusal.specs.Refusal.{checked, answered, given_or}
-use Rattle.refusal.specs.declared.Refusal.{Refusal}
+use Rattle.std.specs.Prelude.{Ok}
+use Rattle.refusal.specs.Refusal.{checked, answered}
 use Rattle.refusal.specs.declared.Refusal.TheVariants.{Overfull}
 use Rattle.parity.specs.Prepare.{Lent, prepare_check, prepared}
 use Rattle.parity.specs.Promises.{handed_in}
@@ -43,7 +43,7 @@ use Rattle.ways.proofs.Unrefused.{prepared_probed}
 begins_free : (n : ℕ) → n ≤ 512 → (begins n).region ≡ region_of (free n)
 unfolding undecided_of
 begins_free n few =
-    ap (λ (t : Bool). given_or (answered (checked ((Overfull, t) ∷ [])) (region_of (free n))) (region_of [])) (le-ltb 512 n few)
+    ap (λ (t : Bool). result_unwrap_or (answered (checked ((Overfull, t) ∷ [])) (region_of (free n))) (region_of [])) (le-ltb 512 n few)
 
 module _ (n m : ℕ) (parts : List Part) (l : Lent) (cs : List Call) (fit : FitParts n parts) (handed : handed_in n m l ≡ reverse (all_rows n parts))
     (checks : prepare_check n m l ≡ Ok tt) (lends : LendsAll (prepared n m l) (begins n) cs) where

@@ -4,6 +4,7 @@ ghost use Rattle.ways.specs.Ways.{WaysCounted};
 ghost use Rattle.ways.specs.Instances.{Instances};
 
 // "The ways to settle all measures number exactly 2^(u - k) when the probe says yes, and 0 exactly when it says no."
+#[tactic(auto, using(crate::proofs::Settling::ways_counted))]
 pub fn ways_counted()
     ensures { WaysCounted }
 {}

@@ -71,7 +71,3 @@ module _ (k : ℕ) (l r : List ℕ) (wide : length l ≤ length r) (i : ℕ) (fr
   common_empty h =
       let past : length (common l r) ≤ i = omega (arith, common_length l r wide) in
       sym (common_set k l r wide) ∙ from ∙ ap (λ (n : ℕ). n * 2 ^ (i * k)) (left_none k (common l r) i past) ∙ zero-mul _
-
-  pub common_none : length l ≤ i → 0 ≡ low (bit_and (packed k l) (packed k r))
-  unfolding low count_trailing_zeros
-  common_none h = ap low (sym (common_empty h))

@@ -2,7 +2,7 @@
 use Prim.Native.Nat.{ℕ, zero, suc, ◌+◌, ◌-◌, ◌*◌, ◌/◌, ◌%◌, ◌^◌, ◌≤◌, ◌<◌}
 use mathlib.Core.Path.{◌≡◌, refl, sym, ap, ap₂, ◌∙◌, subst}
 use mathlib.Core.List.{List, [], ◌∷◌, ◌++◌, zip_with}
-use mathlib.Core.Bool.{Bool, true, false, cond, not, xor, ◌&&◌, ◌||◌, true≢false, false≢true}
+use mathlib.Core.Bool.{Bool, true, false, cond, not, xor, ◌&&◌, ◌||◌, and-false, true≢false, false≢true}
 use mathlib.Core.Logic.{inl, inr}
 use native.Mathlib.Nat.{mod-lt, mod-eq_of_lt, mod-add-div', div-one, div-eq_of_lt, mul-div_cancel, one-mul, add_comm, zero-lt-suc, pow-suc, mul-mod_left, zero-div, suc-mul, le_refl}
 use native.Mathlib.Numerals.{one-add, add-one}
@@ -206,10 +206,6 @@ ones_less x h =
     let e = one_less x h in
     omega (arith, ones_xor x (2 ^ t), ap ones e.0, ap ones e.1, ones_bit t)
 
-and_false : (b : Bool) → (b && false) ≡ false
-and_false true = refl
-and_false false = refl
-
 none_in : (n x : ℕ) → ((b : ℕ) → b < n → has x b ≡ false) → atoms_in n x ≡ []
 unfolding atoms_in
 none_in zero x h = refl
@@ -226,7 +222,7 @@ rise (suc n) x y t l at below rest = elim (cases_lt t n) [
       ap₂ (λ (m : List ℕ) (d : Bool). m ++ cond d (n ∷ []) []) (rise n x y t lt at below rest) (sym same)
   | inr ge ↦
       let last : t ≡ n = omega arith in
-      let gone : has y n ≡ false = rest n ∙ ap (λ (e : Bool). has x n && not e) (eq-eqb n t (sym last)) ∙ and_false (has x n) in
+      let gone : has y n ≡ false = rest n ∙ ap (λ (e : Bool). has x n && not e) (eq-eqb n t (sym last)) ∙ and-false (has x n) in
       let before : (b : ℕ) → b < n → has y b ≡ false = λ b h. rest b ∙ ap (λ (d : Bool). d && not (eqb b t)) (below b (omega arith)) in
       ap₂ (λ (m : List ℕ) (d : Bool). m ++ cond d (n ∷ []) []) (none_in n x (λ b h. below b (omega arith))) (ap (has x) (sym last) ∙ at)
       ∙ ap (λ (m : ℕ). m ∷ []) (sym last)

@@ -1,6 +1,7 @@
 // Packed sets of atoms over lent words, at any width: a port of words.rs and words/storage.rs.
 // Every call is total. Where the Rust panics (an atom past the end, slices of unequal length, more bits than a usize counts),
-// nothing is changed and the answer says so; specs/Calls.antt has each call's definition.
+// nothing is changed and the answer says so: a call that changes a set has nothing else to answer, so it says whether it could by a bool, as C
+// is told. specs/Calls.antt has each call's definition.
 #![tactic(auto)]
 
 ghost use Rattle.std.specs.Prelude.{◌≡◌, ◌<◌, ◌^◌, ℕ, ◌/◌, ◌≢◌, MatchResult, length, replicate, eqb, ltb};
@@ -17,6 +18,7 @@ pub mod promises;
 const TOO_WIDE: usize = 0x0400_0000_0000_0000;
 
 // Where an atom stands: its word, and its bit in that word.
+#[repr(C)]
 #[derive(Clone, Copy)]
 pub struct Place {
     pub word: usize,
@@ -36,6 +38,7 @@ pub enum Unfit {
     TooWide,
 }
 
+#[tactic(auto, using(crate::proofs::Member::one_bit))]
 pub fn locate(atom: usize) -> Place
     ensures { result ≡ place_of atom }
 {
@@ -77,6 +80,7 @@ impl Iterator for SetBits {
 }
 
 // An atom past the end is in no set.
+#[tactic(auto, using(crate::proofs::Member::has_word, crate::proofs::Member::has_past))]
 pub fn contains(words: &[u64], atom: usize) -> bool
     ensures { result ≡ has (set_of words.now) atom }
 {
@@ -110,7 +114,8 @@ pub fn clear(words: &mut [u64])
     words.fill(0);
 }
 
-// Joins two sets of one length word by word, and says whether they are of one length.
+// Joins two sets of one length word by word, and says whether they are of one length. (By place in `right`: after `iter_mut` with `zip` a proof
+// knows nothing of what was written.)
 fn merge<F: Fn(u64, u64) -> u64>(left: &mut [u64], right: &[u64], op: F) -> bool
     requires { F.IsAlwaysCallable op }
     ensures equal { result ≡ eqb (length left.old) (length right.now) }

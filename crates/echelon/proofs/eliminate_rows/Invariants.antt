@@ -7,4 +7,4 @@ abbrev pub invariant-loop-t : goal.invariant-loop-t
 invariant-loop-t g l =
     let r = l.initial.rows in
     SameRows r l.rows
-    × Upto r.shape.atoms r.shape.width l.t r.words.now r.constants.now l.initial.basis l.rows.words.now l.rows.constants.now l.basis l.directory.heads l.directory.sources l.rank l.additions
+    × Upto r.shape.atoms r.shape.width l.t r.words.now r.constants.now l.initial.basis l.rows.words.now l.rows.constants.now l.basis l.directory.pivots l.rank l.additions

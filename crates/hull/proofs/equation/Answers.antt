@@ -1,11 +1,8 @@
 use Rattle.std.proofs.Common.{◌≡◌, ◌-◌, ◌*◌, ◌%◌, ◌^◌, bit_xor, sym, ap, ◌∙◌, arith}
 use mir.Val.{bool_byte}
 use Rattle.hull.specs.Steps.{reach}
-use Rattle.hull.proofs.Turns.{one_shl, bit_shl, reach_turn}
+use Rattle.hull.proofs.Turns.{bit_shl, reach_turn}
 use Rattle.hull.proofs.equation.Goals as goal
-
-pub loop-position-init : goal.loop-position-init
-loop-position-init c = ap (reach _ _) (sym (one_shl 8 _ c.requires))
 
 pub loop-position-preserved : goal.loop-position-preserved
 loop-position-preserved c =

@@ -1,23 +1,17 @@
-use Rattle.std.proofs.Common.{rules, ◌≡◌, ap, ap₂, ◌∙◌}
-use Rattle.std.specs.Prelude.{Result, Ok}
+use Rattle.std.proofs.Common.{ap, ap₂, ◌∙◌}
+use Rattle.std.specs.Prelude.{Result}
 use Rattle.refusal.specs.declared.Refusal.{Refusal}
 use Rattle.snapshot.specs.declared.Snapshot.{Snapshot}
 use Rattle.inspect.specs.Inspect.{told_of, answer_of}
 use Rattle.inspect.specs.declared.Applied.{Applied}
 use Rattle.inspect.specs.declared.Step.{Step}
-use Rattle.inspect.proofs.Inspecting.{publishes, taken}
+use Rattle.inspect.proofs.Inspecting.{publishes}
 use Rattle.inspect.proofs.conclude.Goals as goal
-
-pub unwrap-requires : goal.unwrap-requires
-unwrap-requires c =
-    let ok : c.publish.result ≡ Ok tt =
-    ap (λ (p : Result Unit Refusal × Snapshot). p.0) c.publish.ensures ∙ taken c.args.known c.args.region c.requires.fit in
-    search rules
 
 pub returns : goal.returns
 returns c =
     let a = c.args in
     let batch = c.apply-applied.result in
-    ap (λ (answer : Step). told_of answer batch.held batch.cut a.forced batch.region c.publish.new.self) c.answer.ensures
+    ap (λ (answer : Step). told_of answer batch.held batch.cut a.forced batch.region c.publish.result.1) c.answer.ensures
     ∙ ap₂ (λ (b : Applied) (now : Snapshot). told_of (answer_of b.held b.cut b.against) b.held b.cut a.forced b.region now) c.apply-applied.ensures
     (ap (λ (p : Result Unit Refusal × Snapshot). p.1) c.publish.ensures ∙ publishes a.known a.region c.requires.fit)

@@ -2,24 +2,8 @@ use Rattle.std.proofs.Common.{sym, ap, ◌∙◌, length, arith}
 use Rattle.inspect.specs.Inspect.{filled, outcome}
 use Rattle.inspect.specs.declared.Inspected.{Inspected}
 use Rattle.inspect.proofs.Fits.{checked_fits}
-use Rattle.inspect.proofs.Inspecting.{fine_is, refuted_is, empty_is, wrong_is, applied_is, few, atoms_below, fits_named, gathered_by}
+use Rattle.inspect.proofs.Inspecting.{fine_is, wrong_is, applied_is, few, atoms_below, fits_named, gathered_by}
 use Rattle.inspect.proofs.inspect.Goals as goal
-
-pub returns-then-system : goal.returns-then-system
-returns-then-system c =
-    let a = c.args in
-    let l = filled a.rows.now a.constants.now a.basis.now a.index.now in
-    fine_is a.system l a.region a.known a.forced_atoms.now a.forced_values.now (sym c.in_ok-check.ensures) _ _ _
-    (ap (λ (r : Inspected). outcome r a.forced_atoms.now a.forced_values.now) c.stands.ensures
-    ∙ refuted_is a.system l a.region a.known a.forced_atoms.now a.forced_values.now c.if-system.true)
-
-pub returns-then-system-eq0 : goal.returns-then-system-eq0
-returns-then-system-eq0 c =
-    let a = c.args in
-    let l = filled a.rows.now a.constants.now a.basis.now a.index.now in
-    fine_is a.system l a.region a.known a.forced_atoms.now a.forced_values.now (sym c.in_ok-check.ensures) _ _ _
-    (ap (λ (r : Inspected). outcome r a.forced_atoms.now a.forced_values.now) c.stands-then-system-eq0.ensures
-    ∙ empty_is a.system l a.region a.known a.forced_atoms.now a.forced_values.now c.if-system.false c.if-system-eq0.true)
 
 pub invariant_of-lent : goal.invariant_of-lent
 invariant_of-lent c =

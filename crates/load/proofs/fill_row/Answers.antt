@@ -1,18 +1,11 @@
 -- One atom more, and all of them.
-use Rattle.std.proofs.Common.{◌≡◌, ℕ, ◌+◌, ◌-◌, List, sym, ap, ap₂, ◌∙◌, arith}
+use Rattle.std.proofs.Common.{◌+◌, ◌-◌, sym, ap, ◌∙◌, arith}
 use Rattle.words.specs.Calls.{inserted}
 use Rattle.format.specs.Bytes.{list_from}
 use Rattle.format.specs.Format.{atom_at, atom_count}
 use Rattle.load.specs.Steps.{inserted_all}
 use Rattle.load.proofs.Inserted.{inserted_next, inserted_end}
 use Rattle.load.proofs.fill_row.Goals as goal
-
-pub loop-i-init : goal.loop-i-init
-loop-i-init c =
-    let f = c.args.at.file.now in
-    let o = c.args.at.offset in
-    let all : atom_count f o - 0 ≡ atom_count f o = omega arith in
-    ap₂ (λ (k : ℕ) (ws : List ℕ). inserted_all (list_from (atom_at f o) 0 k) ws) all c.clear.ensures
 
 pub loop-i-preserved : goal.loop-i-preserved
 loop-i-preserved c =

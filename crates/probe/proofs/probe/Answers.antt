@@ -3,7 +3,7 @@ use Rattle.std.proofs.Common.{◌≡◌, sym, Ok}
 use Rattle.region.specs.Masks.{decisions}
 use Rattle.probe.specs.Probe.{probe_check}
 use Rattle.inspect.specs.Steps.{Masked}
-use Rattle.probe.proofs.Probing.{Lent, checked_lent, fine_is, refuted_is, sound_is}
+use Rattle.probe.proofs.Probing.{Lent, checked_lent, fine_is, sound_is}
 use Rattle.probe.proofs.probe.Goals as goal
 use Rattle.probe.proofs.probe.Goals.{In_ok-check}
 
@@ -17,12 +17,6 @@ sound c = let a = c.args in checked_lent a.system a.rows.now a.constants.now a.b
 pub open_count-undecided-requires : goal.open_count-undecided-requires
 open_count-undecided-requires c = (sound (goal.at.open_count-undecided-requires c).In_ok-check).region
 
-pub returns-then-system : goal.returns-then-system
-returns-then-system c =
-    let a = c.args in
-    fine_is a.system a.rows.now a.constants.now a.basis.now a.region (fit (goal.at.returns-then-system c).In_ok-check) _
-    (refuted_is a.system a.rows.now a.constants.now a.basis.now a.region c.open_count-undecided.result c.open_count-undecided.ensures c.if-system.true)
-
 pub invariant_of-lent : goal.invariant_of-lent
 invariant_of-lent c =
     let is = sound (goal.at.invariant_of-lent c).In_ok-check in
@@ -32,7 +26,7 @@ pub returns : goal.returns
 returns c =
     let a = c.args in
     let is = sound (goal.at.returns c).In_ok-check in
-    let masked : Masked a.system.atoms (decisions a.region) c.of.result.held c.of.result.free = rw (sym is.same) (c.of.ensures is.region) in
+    let masked : Masked a.system.atoms (decisions a.region) c.of.result.held c.of.result.free = rw (sym is.same) (c.of.ensures.fit is.region) in
     fine_is a.system a.rows.now a.constants.now a.basis.now a.region (fit (goal.at.returns c).In_ok-check) _
     (sound_is a.system a.rows.now a.constants.now a.basis.now a.region c.open_count-undecided.result c.open_count-undecided.ensures c.if-system.false c.eliminate-left.result
     (c.eliminate-left.ensures (decisions a.region) masked))

@@ -1,5 +1,5 @@
 -- the split words, with the earlier row added to the later part's first words
-use Rattle.std.proofs.Common.{◌*◌, rules}
+use Rattle.std.proofs.Common.{◌+◌, ◌-◌, ◌*◌, rules, arith}
 use Rattle.rows.specs.Calls.{added_words}
 use Rattle.rows.proofs.Adding.{added_split, earlier}
 use Rattle.rows.proofs.add_words.Goals as goal
@@ -9,5 +9,6 @@ unfolding added_words
 returns c =
     let a = c.args in
     let split = c.split_at_mut-earlier in
-    added_split a.width (a.target.0 * a.width) (a.source.0 * a.width) a.rows.now split.result.0.now split.result.1.now _
-    (earlier a.width a.target.0 a.source.0 c.requires.0) c.requires.1 split.ensures.front split.ensures.back (search rules)
+    let y = a.source.0 * a.width in
+    added_split 0 a.width a.width (a.target.0 * a.width) y y (y + a.width - y) a.rows.now split.result.0.now split.result.1.now _
+    (omega arith) (omega arith) (omega arith) (earlier a.width a.target.0 a.source.0 c.requires.0) c.requires.1 split.ensures.front split.ensures.back (search rules)

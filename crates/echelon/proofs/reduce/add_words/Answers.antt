@@ -1,28 +1,25 @@
--- The source ends before the target begins, so what is added is as it was.
-use Rattle.std.proofs.Common.{◌≡◌, ℕ, ◌+◌, ◌-◌, ◌*◌, ◌++◌, bit_xor, take, drop, ap, ◌∙◌, add_assoc, arith}
-use mathlib.Core.List.{zip_with}
-use Rattle.rows.proofs.Adding.{adding_next, adding_end, earlier}
-use Rattle.echelon.proofs.Replaced.{added_put}
+-- the split words, with the rest of the earlier row added to that of the later one
+use Rattle.std.proofs.Common.{◌≡◌, ◌+◌, ◌-◌, ◌*◌, ◌++◌, ap, ◌∙◌, drop, take, rules, arith}
+use Rattle.std.proofs.Math.Seq.{drop-drop}
+use Rattle.rows.proofs.Adding.{added_split, earlier}
+use Rattle.echelon.specs.Steps.{put, added_from}
+use Rattle.echelon.proofs.Replaced.{added_none}
 use Rattle.echelon.proofs.reduce.add_words.Goals as goal
 
-pub loop-k-preserved : goal.loop-k-preserved
-loop-k-preserved c =
+pub returns-then-i-width : goal.returns-then-i-width
+returns-then-i-width c =
     let a = c.args in
-    let apart = earlier a.width a.target.0 a.source.0 c.requires.earlier in
-    let x = a.target.0 * a.width in
-    let y = a.source.0 * a.width in
-    let k = c.loop-k.k in
-    rw (← add_assoc x k 1, ← add_assoc y k 1)
-    (adding_next (a.width - a.i) (x + a.i) (y + a.i) a.words.now c.loop-k.words (x + k) (y + k) (omega arith) (omega arith) c.loop-k.invariant (omega arith))
+    added_none a.width a.target.0 a.rows.now c.requires.within a.source.0
+    ∙ ap (λ i. added_from i a.width a.rows.now a.target.0 a.source.0) (let e : a.width ≡ a.i = omega arith in e)
 
 pub returns : goal.returns
+unfolding put
 returns c =
     let a = c.args in
-    let apart = earlier a.width a.target.0 a.source.0 c.requires.earlier in
-    let x = a.target.0 * a.width + a.i in
-    let y = a.source.0 * a.width + a.i in
-    let ws = a.words.now in
-    let end : x + (a.width - a.i) ≡ a.target.0 * a.width + a.width = omega arith in
-    adding_end (a.width - a.i) x y ws c.loop-k.words (a.target.0 * a.width + c.loop-k.k) (a.source.0 * a.width + c.loop-k.k) (omega arith) (omega arith) c.loop-k.invariant (omega arith)
-    ∙ ap (λ (k : ℕ). take x ws ++ (zip_with bit_xor (take (a.width - a.i) (drop x ws)) (take (a.width - a.i) (drop y ws)) ++ drop k ws)) end
-    ∙ added_put a.width a.target.0 ws (omega arith) a.source.0 a.i (omega arith)
+    let split = c.split_at_mut-earlier in
+    let y = a.source.0 * a.width in
+    let q = split.result.1.now in
+    let end : a.i + (a.width - a.i) ≡ a.width = omega arith in
+    ap (λ l. split.result.0.now ++ (take a.i q ++ (c.xor_assign.new.left ++ l))) (drop-drop (a.width - a.i) a.i q ∙ ap (λ n. drop n q) end)
+    ∙ added_split a.i (a.width - a.i) a.width (a.target.0 * a.width) y (y + a.i) (y + a.width - (y + a.i)) a.rows.now split.result.0.now q _
+    end (omega arith) (omega arith) (earlier a.width a.target.0 a.source.0 c.requires.earlier) c.requires.within split.ensures.front split.ensures.back (search rules)

@@ -9,8 +9,8 @@ use Rattle.inspect.proofs.Opens.{map_open}
 use borrow.Author.Rules.{rules}
 use Rattle.inspect.proofs.Masks.of.Goals as goal
 
-pub returns : goal.returns
-returns c fit =
+pub returns-clause-fit : goal.returns-clause-fit
+returns-clause-fit c fit =
     let r = c.args.region in
     let held_words : length r.held ≡ 8 = search rules in
     let cut_words : length r.cut ≡ 8 = search rules in

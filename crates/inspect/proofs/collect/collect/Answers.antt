@@ -5,9 +5,6 @@ use Rattle.region.proofs.Visiting.{visiting_some, visiting_none}
 use Rattle.inspect.proofs.Visits.{visit_wrong, visit_next, visit_end}
 use Rattle.inspect.proofs.collect.collect.Goals as goal
 
-pub read-requires : goal.read-requires
-read-requires c = (visiting_some c.loop-j.j-iterator c.next.new.self _ _ c.loop-j.invariant.visits c.in-Some.j c.in-Some.ensures.steps).inside
-
 pub returns-in_default : goal.returns-in_default
 returns-in_default c =
     let step = visiting_some c.loop-j.j-iterator c.next.new.self _ _ c.loop-j.invariant.visits c.in-Some.j c.in-Some.ensures.steps in

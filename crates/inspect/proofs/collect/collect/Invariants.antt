@@ -1,7 +1,7 @@
 use Rattle.words.specs.Set.{set_of}
 use Rattle.rows.specs.Flat.{atoms_of}
 use Rattle.region.proofs.Visiting.{Visiting}
-use Rattle.inspect.specs.Steps.{rows_of}
+use Rattle.parity.specs.Basis.{rows_of}
 use Rattle.inspect.proofs.Gathering.{Gathering}
 use Rattle.inspect.proofs.collect.collect.Given as goal
 

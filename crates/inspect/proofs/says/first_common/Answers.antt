@@ -1,6 +1,5 @@
 use Rattle.std.proofs.Common.{Bool, ◌≤◌, length, cond, sym, ap, ◌∙◌, arith, Some, None}
 use Rattle.std.specs.Int.Bits.{bit_and}
-use native.Mathlib.Nat.{mul-one}
 use borrow.Author.Tests.{eq-eqb, ne_eqb}
 use Rattle.std.proofs.lemmas.Nat.{zero_from_ones}
 use Rattle.words.specs.Set.{set_of, low}
@@ -11,9 +10,6 @@ pub returns-then-shared-eq0 : goal.returns-then-shared-eq0
 returns-then-shared-eq0 c =
     let x = bit_and (set_of c.args.row.now) (set_of c.args.mask.now) in
     sym (ap (λ (t : Bool). cond t None (Some (low x))) (eq-eqb x 0 (zero_from_ones x (sym c.requires.counted ∙ c.if-shared-eq0.true))))
-
-pub loop-i-init : goal.loop-i-init
-loop-i-init c = sym (mul-one _)
 
 pub returns-then-common-ne0 : goal.returns-then-common-ne0
 returns-then-common-ne0 c =

@@ -1,14 +1,6 @@
 -- One record more, and all of them.
-use Rattle.std.proofs.Common.{ap, ◌∙◌}
-use Rattle.format.specs.declared.Record.{Record}
-use Rattle.format.specs.declared.Records.{Records}
-use Rattle.load.proofs.Filled.{going_start, going_fit, going_room, going_next, going_end}
+use Rattle.load.proofs.Filled.{going_fit, going_room, going_next, going_end}
 use Rattle.load.proofs.Filling.put_records.Goals as goal
-
-pub loop-record-init : goal.loop-record-init
-loop-record-init c =
-    let first = ap (λ (r : Records). r.next) c.into_iter-record-iterator.ensures.into_iter_gives ∙ c.of-record-items.ensures in
-    going_start c.args.file.now c.args.self.now _ c.requires.fit (ap (λ (r : Record). r.file.now) first) (ap (λ (r : Record). r.offset) first)
 
 pub put_record-requires-clause-fit : goal.put_record-requires-clause-fit
 put_record-requires-clause-fit c = going_fit c.args.file.now c.args.self.now c.loop-record.invariant c.in-Some.ensures.steps

@@ -1,51 +1,67 @@
 -- `enter_rows`: a turn enters one basis row more.
-use mathlib.Core.Path.{◌≡◌, subst}
-use native.Mathlib.Omega.{arith}
-use lib.ListN.{get_or}
-use Rattle.rows.specs.Flat.{width_of, row}
+use Rattle.std.proofs.Common.{◌≡◌, subst, arith}
+use Rattle.parity.proofs.InOrder.{Given, ordered_start, ordered_some, ordered_none}
 use Rattle.parity.proofs.Naming.{ordinal_mark}
 use Rattle.parity.proofs.Ordinals.{Upto, upto_start, ordinal_reaches, ordinal_few, upto_next, upto_words}
 use Rattle.parity.proofs.incidence.enter_rows.Goals as goal
-use Rattle.parity.proofs.incidence.enter_rows.Goals.{After-unwrap-words}
+use Rattle.parity.proofs.incidence.enter_rows.Goals.{In-Some}
 
-pub loop-j-init : goal.loop-j-init
-loop-j-init c =
+given : (c : In-Some) → Given c.loop-row.row-iterator c.next.new.self c.args.basis.now c.in-Some.row
+given c = ordered_some c.loop-row.row-iterator c.next.new.self c.args.basis.now c.loop-row.invariant.ordered c.in-Some.row c.in-Some.ensures.steps
+
+pub loop-row-init : goal.loop-row-init
+loop-row-init c =
     let b = c.args.basis.now in
-    upto_start b.atoms c.args.stride b.rows.now b.entries.now c.clear.new.words (rw c.requires.columns at c.clear.ensures) (λ i. (c.type_inv.index i).fits)
-
--- the row that the ordinal names
-row_is : (c : After-unwrap-words) → let b = c.args.basis.now in c.unwrap-words.result.now ≡ row (width_of b.atoms) b.rows.now (get_or b.entries.now c.loop-j.j 0)
-row_is c = (rw c.unwrap-words.ensures at c.row.ensures).1
+    let begun = c.in_order-row-items.ensures in
+    let is = c.into_iter-row-iterator.ensures.into_iter_gives in
+    let ordered = ordered_start c.into_iter-row-iterator.result _ b is begun.basis begun.next in
+    let first : c.into_iter-row-iterator.result.next ≡ 0 = cc (is, begun.next) in
+    record {
+      can_next = tt;
+      is_finite = tt;
+      ordered = ordered;
+      entered = rw first (upto_start b.atoms c.args.stride b.rows.now b.entries.now c.clear.new.words (rw c.requires.columns at c.clear.ensures) (λ i. (c.type_inv.index i).fits));
+    }
 
 pub enter_row-incidences-requires-clause-reaches : goal.enter_row-incidences-requires-clause-reaches
 enter_row-incidences-requires-clause-reaches c =
     let b = c.args.basis.now in
-    let l = c.loop-j in
-    rw (row_is (goal.at.enter_row-incidences-requires-clause-reaches c).After-unwrap-words)
-    (ordinal_reaches b.atoms b.rank c.args.stride b.rows.now b.constants.now b.entries.now l.index l.incidences l.j b.named c.loop-j-test.true l.invariant)
+    let l = c.loop-row in
+    let row = given (goal.at.enter_row-incidences-requires-clause-reaches c).In-Some in
+    rw row.row.words
+    (ordinal_reaches b.atoms b.rank c.args.stride b.rows.now b.constants.now b.entries.now l.index l.incidences l.row-iterator.next b.named row.below l.invariant.entered)
 
 pub overflow_add-incidences : goal.overflow_add-incidences
 overflow_add-incidences c =
     let b = c.args.basis.now in
-    let l = c.loop-j in
-    let count = rw (row_is (goal.at.overflow_add-incidences c).After-unwrap-words) at c.enter_row-incidences.ensures.count in
-    let few = ordinal_few b.atoms b.rank c.args.stride b.rows.now b.constants.now b.entries.now l.index l.incidences l.j b.named c.loop-j-test.true l.invariant in
-    omega (arith, count, few, l.invariant.few, b.named.ranked)
+    let l = c.loop-row in
+    let row = given (goal.at.overflow_add-incidences c).In-Some in
+    let count = rw row.row.words at c.enter_row-incidences.ensures.count in
+    let few = ordinal_few b.atoms b.rank c.args.stride b.rows.now b.constants.now b.entries.now l.index l.incidences l.row-iterator.next b.named row.below l.invariant.entered in
+    omega (arith, count, few, l.invariant.entered.few, row.below, b.named.ranked)
 
-pub loop-j-preserved : goal.loop-j-preserved
-loop-j-preserved c =
+pub loop-row-preserved : goal.loop-row-preserved
+loop-row-preserved c =
     let b = c.args.basis.now in
-    let l = c.loop-j in
+    let l = c.loop-row in
     let entered = c.enter_row-incidences in
-    let is = row_is (goal.at.loop-j-preserved c).After-unwrap-words in
-    upto_next b.atoms b.rank c.args.stride b.rows.now b.constants.now b.entries.now l.index l.incidences l.j b.named c.loop-j-test.true l.invariant entered.new.index
-    entered.auto.index (λ i. (c.type_inv.index i).fits) (rw (is, ordinal_mark c.locate.result l.j c.locate.ensures) at entered.ensures.index) entered.result
-    (rw is at entered.ensures.count)
+    let row = given (goal.at.loop-row-preserved c).In-Some in
+    record {
+      can_next = tt;
+      is_finite = tt;
+      ordered = row.goes;
+      entered =
+          rw row.after
+          (upto_next b.atoms b.rank c.args.stride b.rows.now b.constants.now b.entries.now l.index l.incidences l.row-iterator.next b.named row.below l.invariant.entered
+          entered.new.index entered.auto.index (λ i. (c.type_inv.index i).fits)
+          (rw (row.row.words, ordinal_mark c.locate.result c.in-Some.row.ordinal.0 c.locate.ensures, row.row.ordinal) at entered.ensures.index) entered.result
+          (rw row.row.words at entered.ensures.count));
+    }
 
 pub returns-clause-index : goal.returns-clause-index
 returns-clause-index c =
     let b = c.args.basis.now in
-    let l = c.loop-j in
-    let all : l.j ≡ b.rank = omega arith in
+    let l = c.loop-row in
+    let all = ordered_none l.row-iterator c.next.new.self b l.invariant.ordered c.in-None.ensures.steps in
     upto_words b.atoms c.args.stride b.rows.now b.entries.now l.index l.incidences b.rank
-    (subst (Upto b.atoms c.args.stride b.rows.now b.entries.now l.index l.incidences) all l.invariant) b.constants.now
+    (subst (Upto b.atoms c.args.stride b.rows.now b.entries.now l.index l.incidences) all l.invariant.entered) b.constants.now

@@ -1,10 +1,7 @@
 -- `enter_word`: a turn marks the column of one atom more.
-use Prim.Native.Nat.{ℕ, ◌+◌, ◌*◌, ◌^◌}
-use mathlib.Core.Path.{ap, ◌∙◌}
-use native.Mathlib.Nat.{zero-mul}
+use Prim.Native.Nat.{◌+◌, ◌*◌, ◌^◌}
 use native.Mathlib.Omega.{arith}
-use Rattle.parity.proofs.Marking.{left_end}
-use Rattle.parity.proofs.Visiting.{Within, visit_none, bit_within, bit_next}
+use Rattle.parity.proofs.Visiting.{Within, bit_within, bit_next}
 use Rattle.parity.proofs.incidence.enter_word.Goals as goal
 use Rattle.parity.proofs.incidence.enter_word.Goals.{In-Some}
 
@@ -39,11 +36,3 @@ loop-bit-preserved c =
     let l = c.loop-bit in
     bit_next a.stride a.place.bit a.place.word (a.word * 2 ^ a.base) a.index.now a.base l.bit-iterator c.next.new.self c.in-Some.bit l.index c.requires.wide l.invariant
     c.in-Some.ensures.steps (omega arith)
-
-pub returns : goal.returns
-returns c =
-    let a = c.args in
-    let l = c.loop-bit in
-    let none = visit_none l.bit-iterator c.next.new.self c.in-None.ensures.steps in
-    left_end a.stride (a.place.bit * 2 ^ (a.place.word * 64)) (a.word * 2 ^ a.base) a.index.now (l.bit-iterator.remaining * 2 ^ a.base) l.index
-    (ap (λ (n : ℕ). n * 2 ^ a.base) none ∙ zero-mul (2 ^ a.base)) l.invariant

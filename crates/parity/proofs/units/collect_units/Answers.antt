@@ -1,20 +1,40 @@
 -- `collect_units`: a turn writes one unit more, if the row is one.
+use Rattle.parity.proofs.InOrder.{Given, ordered_some}
 use Rattle.parity.proofs.Collecting.{collected_unit, collected_other}
 use Rattle.parity.proofs.units.collect_units.Goals as goal
-use Rattle.parity.proofs.units.collect_units.Goals.{in-Some, in_default}
+use Rattle.parity.proofs.units.collect_units.Goals.{In-Some}
 
-pub loop-j-preserved : goal.loop-j-preserved
-loop-j-preserved c =
+given : (c : In-Some) → Given c.loop-row.row-iterator c.next.new.self c.args.basis.now c.in-Some.row
+given c = ordered_some c.loop-row.row-iterator c.next.new.self c.args.basis.now c.loop-row.invariant.ordered c.in-Some.row c.in-Some.ensures.steps
+
+pub loop-row-preserved : goal.loop-row-preserved
+loop-row-preserved c =
     let a = c.args in
     let b = a.basis.now in
-    let l = c.loop-j in
-    elim c.match-unit.branch [
-      | in-Some w ↦
-          rw (w.atoms-is, w.values-is, w.units-is)
-          (collected_unit b.atoms b.rank b.rows.now b.constants.now b.entries.now a.atoms.now a.values.now l.atoms l.values l.units l.j b.named c.loop-j-test.true c.requires.atoms
-          c.requires.values l.invariant w.in-Some.atom w.in-Some.value w.in-Some.ensures)
-      | in_default w ↦
-          rw (w.atoms-is, w.values-is, w.units-is)
-          (collected_other b.atoms b.rank b.rows.now b.constants.now b.entries.now a.atoms.now a.values.now l.atoms l.values l.units l.j b.named c.loop-j-test.true c.requires.atoms
-          c.requires.values l.invariant w.in_default.ensures)
-    ]
+    let l = c.loop-row in
+    let row = given (goal.at.loop-row-preserved c).In-Some in
+    record {
+      can_next = tt;
+      is_finite = tt;
+      ordered = row.goes;
+      collected =
+          rw row.after
+          (collected_other b.atoms b.rank b.rows.now b.constants.now b.entries.now a.atoms.now a.values.now l.atoms l.values l.units l.row-iterator.next b.named row.below c.requires.atoms
+          c.requires.values l.invariant.collected (rw (row.row.words, row.row.constant) at c.in_default.ensures));
+    }
+
+pub loop-row-preserved-in-Some-unit : goal.loop-row-preserved-in-Some-unit
+loop-row-preserved-in-Some-unit c =
+    let a = c.args in
+    let b = a.basis.now in
+    let l = c.loop-row in
+    let row = given (goal.at.loop-row-preserved-in-Some-unit c).In-Some in
+    record {
+      can_next = tt;
+      is_finite = tt;
+      ordered = row.goes;
+      collected =
+          rw row.after
+          (collected_unit b.atoms b.rank b.rows.now b.constants.now b.entries.now a.atoms.now a.values.now l.atoms l.values l.units l.row-iterator.next b.named row.below c.requires.atoms
+          c.requires.values l.invariant.collected c.in-Some-unit.atom c.in-Some-unit.value (rw (row.row.words, row.row.constant) at c.in-Some-unit.ensures));
+    }

@@ -1,8 +1,14 @@
--- `collect_units`: after j turns the units among the first j basis rows are written (`Collected`).
+-- `collect_units`: before each row the units among the basis rows before it are written (`Collected`).
+use Rattle.parity.proofs.InOrder.{Ordered}
 use Rattle.parity.proofs.Collecting.{Collected}
 use Rattle.parity.proofs.units.collect_units.Given as goal
 
-abbrev pub invariant-loop-j : goal.invariant-loop-j
-invariant-loop-j l =
+abbrev pub invariant-loop-row : goal.invariant-loop-row
+invariant-loop-row l =
     let b = l.basis in
-    Collected b.atoms b.rows.now b.constants.now b.entries.now l.fn.atoms l.fn.values l.atoms l.values l.units l.j
+    record {
+      can_next : (goal.iterator-loop-row).can_next l.row-iterator;
+      is_finite : (goal.iterator-loop-row).is_finite l.row-iterator;
+      ordered : Ordered l.row-iterator b;
+      collected : Collected b.atoms b.rows.now b.constants.now b.entries.now l.fn.atoms l.fn.values l.atoms l.values l.units l.row-iterator.next;
+    }

@@ -3,4 +3,4 @@ use Rattle.probe.proofs.Opening.{Opening}
 use Rattle.probe.proofs.eliminate.split.Given as goal
 
 abbrev pub invariant-loop-i : goal.invariant-loop-i
-invariant-loop-i l = Opening l.words l.masks.held l.masks.free l.fn.left l.left l.sum l.i
+invariant-loop-i l = Opening l.row.words.now l.masks.held l.masks.free l.fn.left l.left l.sum l.i

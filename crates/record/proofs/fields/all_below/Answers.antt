@@ -7,6 +7,6 @@ use Rattle.record.proofs.fields.all_below.Goals as goal
 
 pub returns : goal.returns
 returns c =
-    let atom = atom_at c.args.record.file.now c.args.record.offset in
+    let atom = atom_at c.args.at.file.now c.args.at.offset in
     all_from_yields_List (λ i. ltb (atom i) c.args.n) _ _ _ c.all.ensures.ran (YieldsList-from_range 0 c.args.count c.args.count refl (omega arith)) (λ x b q k. search (rules, tests))
     ∙ all_below_by_place atom c.args.n 0 c.args.count
