@@ -1,4 +1,5 @@
-// A file answered: checked whole, refused with a line, or loaded, prepared and answered line by line.
+// A file answered: checked whole, refused with a line, or loaded, prepared and answered line by line. (Lines are put by hand and not by `write!`, as
+// `text` says; so a Display would have no reader.)
 #![tactic(auto)]
 
 ghost use Rattle.std.specs.Prelude.{◌≡◌, Ok, ◌≤◌, length, take, IfOk};
@@ -33,7 +34,7 @@ fn sound_word(refuted: bool) -> &'static [u8]
     if refuted { b" refuted\n" } else { b" sound\n" }
 }
 
-// "system": atoms, rows, rank, additions, units, incidences, sound or refuted. (By hand and not by `write!`, as `text` says.)
+// "system": atoms, rows, rank, additions, units, incidences, sound or refuted.
 fn put_system(text: &mut Text, prepared: Prepared)
     ensures { Puts text.old (system_line prepared) text.new }
 {
@@ -44,7 +45,7 @@ fn put_system(text: &mut Text, prepared: Prepared)
     text.put_two(b"", prepared.units, b" ", prepared.incidences, end);
 }
 
-// The lines of a file whose rows are loaded: preparation takes them.
+// The lines of a file whose rows are loaded: preparation takes them. Each list is memory of its own, as `prepare` is lent them.
 fn put_answers(
     file: &[u8],
     checked: Checked,

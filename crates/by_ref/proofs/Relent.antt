@@ -1,26 +1,20 @@
 -- An inspection that is lent other lists: what it answers and forces depends on their lengths alone, and on those only as far as 512.
-use Prim.Native.Nat.{ℕ, ◌*◌, min, ◌≤◌, ◌<◌}
+use Prim.Native.Nat.{ℕ, min, ◌≤◌, ◌<◌}
 use mathlib.Core.Path.{◌≡◌, refl, sym, ap, ap₂, subst, ◌∙◌}
-use mathlib.Core.List.{List, [], ◌∷◌, ◌++◌, map}
-use mathlib.Core.Bool.{Bool, true, false, cond, not, ◌&&◌, ◌||◌}
+use mathlib.Core.List.{List, [], ◌++◌, map}
+use mathlib.Core.Bool.{Bool, true, false, cond}
 use native.Mathlib.Omega.{arith}
 use borrow.Author.Tests.{lt-ltb, le-ltb, ltb-false}
 use Rattle.std.specs.Prelude.{Result, Ok, Err}
 use lib.ListN.{length, take, drop, replicate, length-take, length-append, length-map}
 use lib.Seq.{length-take-le, take_at, take-take}
 use lib.Dec.{T, ltb, ltb→lt, eqb}
-use Rattle.rows.specs.Flat.{width_of}
-use Rattle.refusal.specs.Refusal.{checked, answered, left}
+use Rattle.refusal.specs.Refusal.{answered, left}
 use Rattle.refusal.specs.declared.Refusal.{Refusal}
-use Rattle.refusal.specs.declared.Refusal.TheVariants.{Short, Overfull, Stray, Clash, Basis, Index, Unequal, Missing}
-use Rattle.fit.specs.Rows.{short, strays, misnames}
 use Rattle.std.proofs.lemmas.Bool.{or_parts}
-use Rattle.index.specs.Index.{column_width}
-use Rattle.index.specs.Column.{over_rank}
 use Rattle.parity.specs.declared.System.{System}
-use Rattle.region.specs.Calls.{strayed, clashes}
 use Rattle.region.specs.declared.Region.{Region}
-use Rattle.snapshot.specs.Knowledge.{overfull_by, unequal, missing}
+use Rattle.snapshot.specs.Knowledge.{overfull_by}
 use Rattle.snapshot.specs.declared.Snapshot.{Snapshot}
 use Rattle.inspect.specs.Consequences.{Consequences}
 use Rattle.inspect.specs.Inspect.{Filled, told_of, Outcome, outcome, atoms_from, values_from, inspect_check, concluded, found, inspected, inspect_of}
@@ -43,35 +37,18 @@ enough n k few = go (ltb n k) refl
     go false e = let most : k ≤ n = ltb-false n k e in le-ltb (min n 512) k (omega (arith, most, few)) ∙ sym (le-ltb n k most)
 
 module _ (s : System) (l : Filled) (r : Region) (known : Snapshot) where
-  -- the checks after 10 and 13, by whether the forced lists are too short
-  abbrev late : Bool → Result Unit Refusal
-  late t =
-      checked ((
-        Short,
-        short s.atoms s.rows l.rows l.constants
-            || (ltb (length l.basis) (min s.rows s.atoms) || (ltb (length l.index) (s.atoms * column_width s.rank) || (t || t))),
-      ) ∷
-      (Stray, strays s.atoms (width_of s.atoms) l.rows l.constants s.rows || strayed r) ∷
-      (Clash, clashes r) ∷
-      (Basis, misnames s.rows l.basis s.rank) ∷
-      (Index, not s.refuted && over_rank s.rank (column_width s.rank) l.index s.atoms) ∷
-      (Unequal, unequal s r known) ∷
-      (Missing, missing r known) ∷
-      [])
+  by_first : (n : ℕ) (full over : Bool) → overfull_by s r known ≡ full → ltb (min s.rows s.atoms) s.rank ≡ over
+      → inspect_check s l r known (min n 512) (min n 512) ≡ inspect_check s l r known n n
+  unfolding inspect_check
+  by_first n true over e e' = simp e
+  by_first n false true e e' = simp (e, e')
+  by_first n false false e e' =
+      let atoms : s.atoms ≤ 512 = ltb-false 512 s.atoms (or_parts _ _ (or_parts _ _ e).0).0 in
+      let rank : s.rank ≤ min s.rows s.atoms = ltb-false _ _ e' in
+      simp (enough n s.rank (omega (arith, atoms, rank)))
 
   same_check : (n : ℕ) → inspect_check s l r known (min n 512) (min n 512) ≡ inspect_check s l r known n n
-  unfolding inspect_check
-  same_check n = go (overfull_by s r known) (ltb (min s.rows s.atoms) s.rank) refl refl
-    where
-      go : (full over : Bool) → overfull_by s r known ≡ full → ltb (min s.rows s.atoms) s.rank ≡ over
-          → cond full (Err Overfull) (cond over (Err Basis) (late (ltb (min n 512) s.rank)))
-          ≡ cond full (Err Overfull) (cond over (Err Basis) (late (ltb n s.rank)))
-      go true over e e' = refl
-      go false true e e' = refl
-      go false false e e' =
-          let atoms : s.atoms ≤ 512 = ltb-false 512 s.atoms (or_parts _ _ (or_parts _ _ e).0).0 in
-          let rank : s.rank ≤ min s.rows s.atoms = ltb-false _ _ e' in
-          ap late (enough n s.rank (omega (arith, atoms, rank)))
+  same_check n = by_first n (overfull_by s r known) (ltb (min s.rows s.atoms) s.rank) refl refl
 
   -- ---- the answer and the forced list, by the check
 

@@ -1,5 +1,5 @@
-// The calls that document 01 asks for behind a reference, for C: the knowledge lent by `&mut`, and the forced list as a lent slice of
-// `Forced`. Each is thin: `Snapshot::publish`, or the inspection by value, does the work. `by_ref_c` exports them.
+// The calls that document 01 asks for behind a reference, for C: the knowledge lent by `&mut`, and the forced list as a lent slice of `Forced`. Each is
+// thin: the call by value of `ffi` does the work, and what it is lent is passed on one by one. `by_ref_c` exports them.
 #![tactic(auto)]
 
 ghost use Rattle.std.specs.Prelude.{◌≡◌, map, ◌≤◌, min, length, take, replicate};
@@ -17,7 +17,7 @@ use snapshot::Snapshot;
 
 pub mod promises;
 
-// One entry of the forced list: an atom and its value, 0 or 1.
+// One entry of the forced list: an atom and its value, 0 or 1, as C reads it (`inspect` has its own).
 #[repr(C)]
 #[derive(Clone, Copy)]
 pub struct Forced {
@@ -61,7 +61,7 @@ struct Listed {
     values: [u8; 512],
 }
 
-// Publishes a region in the very record that was passed, and answers the number under which the region is refused, or 0.
+// Publishes a region in the very record that was passed, and answers the number under which the region is refused, or 0, for C, which has no Result.
 pub fn worzubil_publish_in(known: &mut Snapshot, region: Region) -> usize
     ensures { publication result known.new ≡ published_answer (publish_of known.old region) }
 {
@@ -133,8 +133,8 @@ fn gather(
     }
 }
 
-// Writes the first so many entries of a list. By place (tried: of a list that `iter_mut().zip(..)` went through a proof knows the length, and not
-// the entries).
+// Writes the first so many entries of a list, from the two lists and the count that the call by value fills. By place (tried: of a list that
+// `iter_mut().zip(..)` went through a proof knows the length, and not the entries).
 fn write(list: &mut [Forced], atoms: &[usize; 512], values: &[u8; 512], count: usize)
     requires { (count ≤ length list.old) × (count ≤ 512) }
     ensures { list.new ≡ written atoms.now values.now count list.old }

@@ -32,12 +32,12 @@ use Rattle.echelon.proofs.Looks.{atom_below, atom_lowest, atom_word, head_at}
 
 -- ---- the directory speaks of the rows before row t alone
 
-module _ (n w t : ℕ) (ws cs ws' cs' : List ℕ) (pivots : List Pivot) (only : OnlyRow w t ws cs ws' cs') where
+module _ {n w t : ℕ} {ws cs ws' cs' : List ℕ} {pivots : List Pivot} (only : OnlyRow w t ws cs ws' cs') (dir : ListsPivots n w t ws cs pivots) where
   rows_same : rows_to n w ws' cs' t ≡ rows_to n w ws cs t
   rows_same = rows_kept n w t t ws cs ws' cs' (omega arith) only
 
-  pub directory_kept : ListsPivots n w t ws cs pivots → ListsPivots n w t ws' cs' pivots
-  directory_kept dir = record {
+  pub directory_kept : ListsPivots n w t ws' cs' pivots
+  directory_kept = record {
     wide = dir.wide;
     clean = λ r h. clean_kept w t r h n ws cs ws' cs' only (dir.clean r h);
     known = λ a h.
@@ -70,7 +70,7 @@ empty_next w t ws i room h e below =
     ap (λ (j : ℕ). set_of (take j l)) (add-one i) ∙ ap set_of (take-suc l i 0 (omega (arith, row_length w ws t room)))
     ∙ ap (λ (v : ℕ). set_of (take i l ++ (v ∷ []))) e ∙ packed_zero 64 (take i l) ∙ below
 
-module _ (n w t : ℕ) (ws cs : List ℕ) where
+module _ {n w t : ℕ} {ws cs : List ℕ} where
   pub reduced_start : (i : ℕ) → Clean n w t ws cs → EmptyTo w t ws i → Reduced n w t i ws cs ws cs 0
   reduced_start i clean below = record {
     only = only_start w t ws cs;
@@ -80,9 +80,9 @@ module _ (n w t : ℕ) (ws cs : List ℕ) where
     onward = onward_start (rows_to n w ws cs t) (row_at n w ws cs t);
   }
 
-  module _ (i : ℕ) (ws' cs' : List ℕ) (k : ℕ) (so : Reduced n w t i ws cs ws' cs' k) where
-    pub reduced_join : (ws'' cs'' : List ℕ) (j : ℕ) → Reduced n w t i ws' cs' ws'' cs'' j → Reduced n w t i ws cs ws'' cs'' (k + j)
-    reduced_join ws'' cs'' j on = record {
+  module _ {i : ℕ} {ws' cs' : List ℕ} {k : ℕ} (so : Reduced n w t i ws cs ws' cs' k) where
+    pub reduced_join : {ws'' cs'' : List ℕ} {j : ℕ} → Reduced n w t i ws' cs' ws'' cs'' j → Reduced n w t i ws cs ws'' cs'' (k + j)
+    reduced_join {ws''} {cs''} {j} on = record {
       only = only_join w t ws cs ws' cs' ws'' cs'' so.only on.only;
       clean = on.clean;
       below = on.below;
@@ -132,7 +132,7 @@ module _ (n w t : ℕ) (ws cs : List ℕ) where
       }
 
     -- word i has an atom, and its lowest one no pivot
-    module _ (pivots : List Pivot) (dir : ListsPivots n w t ws cs pivots) (inside : i < w) (word : ℕ) (is : word ≡ get_or (row w ws' t) i 0)
+    module _ {pivots : List Pivot} {word : ℕ} (dir : ListsPivots n w t ws cs pivots) (inside : i < w) (is : word ≡ get_or (row w ws' t) i 0)
         (fits : word < 2 ^ 64) (some_atom : 0 < word) (none_yet : head_of pivots i word ≡ 0) where
       a : ℕ
       a = i * 64 + count_trailing_zeros 64 word
@@ -147,9 +147,9 @@ module _ (n w t : ℕ) (ws cs : List ℕ) where
       unfolding row_at a
       lowest = rw whole (atom_lowest n i word (row w ws' t) some_atom fits small (eqb (get_or cs' t 0) 1))
 
-      pub finished_pivot : (p : NewPivot) → p.head ≡ word → p.lowest.0 ≡ i * 64 + count_trailing_zeros 64 word → Finished n w t ws cs ws' cs' (Some p) k
+      pub finished_pivot : {p : NewPivot} → p.head ≡ word → p.lowest.0 ≡ i * 64 + count_trailing_zeros 64 word → Finished n w t ws cs ws' cs' (Some p) k
       unfolding a
-      finished_pivot p head_is lowest_is =
+      finished_pivot head_is lowest_is =
           let below = atom_below n i word (row w ws' t) some_atom fits small in
           let place = atom_word n i word (row w ws' t) some_atom fits small in
           let none_here : (get_or pivots a no_pivot).head ≡ 0 = sym (head_at pivots i word some_atom) ∙ none_yet in

@@ -8,7 +8,7 @@ use lib.Dec.{ltb}
 use mathlib.Core.Bool.{cond}
 use Rattle.rows.specs.Flat.{row}
 use Rattle.rows.proofs.Places.{row_length}
-use Rattle.echelon.specs.Steps.{EmptyTo}
+use Rattle.echelon.specs.Steps.{Clean, EmptyTo}
 use Rattle.echelon.proofs.Turns.{row_word}
 use Rattle.echelon.proofs.Finishing.{empty_start, empty_next}
 
@@ -40,21 +40,21 @@ pub record First (w t : ℕ) (ws : List ℕ) (i : ℕ) : Type 0 where
   pub below : EmptyTo w t ws i
   pub some : 0 < get_or ws (t * w + i) 0
 
-module _ (w t : ℕ) (ws : List ℕ) (room : t * w + w ≤ length ws) where
+module _ {n w t : ℕ} {ws cs : List ℕ} (clean : Clean n w t ws cs) where
   empty_before : (i : ℕ) → i ≤ w → ((k : ℕ) → k < i → get_or (row w ws t) k 0 ≡ 0) → EmptyTo w t ws i
   empty_before zero h each = empty_start w t ws
   empty_before (suc i) h each =
-      rw (← add-one i) (empty_next w t ws i room (omega arith) (each i (omega arith)) (empty_before i (omega arith) (λ k l. each k (omega arith))))
+      rw (← add-one i) (empty_next w t ws i clean.words (omega arith) (each i (omega arith)) (empty_before i (omega arith) (λ k l. each k (omega arith))))
 
   pub first_none : None ≡ position (λ word. not (word == 0)) (row w ws t) → EmptyTo w t ws w
   first_none e =
-      let all : w ≤ position_or_len some_word (row w ws t) = omega (arith, row_length w ws t room, none_passes (row w ws t) e) in
+      let all : w ≤ position_or_len some_word (row w ws t) = omega (arith, row_length w ws t clean.words, none_passes (row w ws t) e) in
       empty_before w (omega arith) (λ k h. none_word _ (fails_before_first some_word (row w ws t) k 0 (omega arith)))
 
-  pub first_some : (i : ℕ) → Some i ≡ position (λ word. not (word == 0)) (row w ws t) → First w t ws i
-  first_some i e =
+  pub first_some : {i : ℕ} → Some i ≡ position (λ word. not (word == 0)) (row w ws t) → First w t ws i
+  first_some {i} e =
       let found = position-Some some_word (row w ws t) i 0 (sym e) in
-      let inside : i < w = omega (arith, row_length w ws t room, found.0) in
+      let inside : i < w = omega (arith, row_length w ws t clean.words, found.0) in
       record {
         inside = inside;
         below = empty_before i (omega arith) (λ k h. none_word _ (found.2 k h));

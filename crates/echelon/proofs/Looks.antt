@@ -75,7 +75,7 @@ pub record Found (n w t i : ℕ) (ws cs ws' cs' : List ℕ) (word head s : ℕ) 
   pub is : head ≡ get_or (row w ws' s) i 0
   pub found : find (worked n w t ws' cs' i word) (rows_to n w ws cs t) ≡ some (row_at n w ws' cs' s)
 
-module _ (n w t i : ℕ) (ws cs ws' cs' : List ℕ) (pivots : List Pivot) (word head k : ℕ) (dir : ListsPivots n w t ws cs pivots)
+module _ {n w t i : ℕ} {ws cs ws' cs' : List ℕ} {pivots : List Pivot} {word head k : ℕ} (dir : ListsPivots n w t ws cs pivots)
     (turn : Turn n w t i ws cs ws' cs' word k) (word_fits : word < 2 ^ 64) (is : head ≡ head_of pivots i word) (some-head : 0 < head) where
   some_word : 0 < word
   some_word = head_some pivots i word (rw is at some-head)
@@ -118,15 +118,12 @@ pub record Made (n w t i : ℕ) (ws cs ws' cs' : List ℕ) (word k : ℕ) (p : P
 pub turn_made : {n w t i : ℕ} {ws cs ws' cs' : List ℕ} {pivots : List Pivot} {word k : ℕ} {p : Pivot} → Turn n w t i ws cs ws' cs' word k → IsPivotOf pivots i word p
     → Clean n w t ws cs → ListsPivots n w t ws cs pivots → i < w → word < 2 ^ 64 → p.head < 2 ^ 64 → Made n w t i ws cs ws' cs' word k p
 turn_made {n} {w} {t} {i} {ws} {cs} {ws'} {cs'} {pivots} {word} {k} {p} turn is clean dir inside word_fits head_fits =
-    let f = rw (sym is.source) at (look_found n w t i ws cs ws' cs' pivots word p.head k dir turn word_fits is.head is.some) in
-    let room : t * w + w ≤ length ws' = omega (arith, turn.only.words, clean.words) in
-    let room' : t < length cs' = omega (arith, turn.only.constants, clean.constants) in
-    let next = turn_next n w t i ws cs ws' cs' word k inside room word_fits turn p.source.0 p.head room' f.clean f.below f.is head_fits f.found in
+    let f = rw (sym is.source) at (look_found dir turn word_fits is.head is.some) in
+    let next = turn_next inside clean word_fits turn f.clean f.below f.is head_fits f.found in
     record {
       earlier = f.earlier;
       there = f.clean.constants;
       few = omega (arith, onward_few (rows_to n w ws cs t) (row_at n w ws cs t) _ _ next.onward n (row_at_length n w ws cs t));
       next = rw (add-one i) next;
-      falls =
-          rw (add-one i) (turn_falls n w t i ws cs ws' cs' word k inside room word_fits turn p.source.0 p.head room' f.clean f.below f.is head_fits f.found);
+      falls = rw (add-one i) (turn_falls inside clean word_fits turn f.clean f.below f.is head_fits f.found);
     }

@@ -1,24 +1,18 @@
 -- One row's words replaced in flat words, and what is then as it was.
-use Prim.Native.Nat.{ℕ, zero, suc, ◌+◌, ◌-◌, ◌*◌, ◌≤◌, ◌<◌}
+use Prim.Native.Nat.{ℕ, zero, suc, ◌+◌, ◌*◌, ◌≤◌, ◌<◌}
 use mathlib.Core.Path.{◌≡◌, refl, sym, ap, ap₂, ◌∙◌}
 use mathlib.Core.List.{List, [], ◌∷◌, ◌++◌, zip_with}
-use native.Mathlib.Nat.{sub-zero, suc-sub-suc, zero-sub}
 use native.Mathlib.Omega.{arith}
-use lib.ListN.{length, get_or, take, drop, set, length-append, length-drop, length-set, take-append-drop}
-use lib.Seq.{length-take-le, take-nil, take_at, drop_at, take-take, drop-drop, get_or-take, take-set-le, drop-set-lt, take-set-lt, drop-set-add}
+use lib.ListN.{length, get_or, take, drop, set, length-append, length-drop, length-set, take-append-drop, drop_of_length-le}
+use lib.Seq.{length-take-le, take_at, drop_at, drop-drop, get_or-take, take-set-le, drop-set-lt, take-set-lt, drop-set-add}
 use lib.Bits.{bit_xor}
 use Rattle.rows.specs.Flat.{row, row_at}
-use Rattle.rows.proofs.Adding.{earlier}
+use Rattle.rows.proofs.Adding.{earlier, front_part}
 use Rattle.rows.proofs.Digits.{atoms_length}
+use Rattle.rows.proofs.Places.{row_length}
 use Rattle.words.specs.Set.{set_of}
 use Rattle.echelon.specs.Eliminate.{rows_to}
 use Rattle.echelon.specs.Steps.{put, added_from, OnlyRow, Clean}
-
-drop_take : (i w : ℕ) (l : List ℕ) → drop i (take w l) ≡ take (w - i) (drop i l)
-drop_take zero w l = ap (λ (n : ℕ). take n l) (sym (sub-zero w))
-drop_take (suc i) zero l = sym (ap (λ (n : ℕ). take n (drop (suc i) l)) (zero-sub (suc i)))
-drop_take (suc i) (suc w) [] = sym (take-nil (suc w - suc i))
-drop_take (suc i) (suc w) (x ∷ l) = drop_take i w l ∙ ap (λ (n : ℕ). take n (drop i l)) (sym (suc-sub-suc w i))
 
 pub row_at_length : (n w : ℕ) (ws cs : List ℕ) (r : ℕ) → length (row_at n w ws cs r).atoms ≡ n
 unfolding row_at
@@ -28,9 +22,7 @@ row_at_length n w ws cs r = atoms_length n (set_of (row w ws r))
 
 module _ (w t r : ℕ) (h : r < t) where
   row_front : (ws : List ℕ) → row w (take (t * w) ws) r ≡ row w ws r
-  row_front ws =
-      let room : w ≤ t * w - r * w = omega (arith, earlier w t r h) in
-      ap (take w) (drop_take (r * w) (t * w) ws) ∙ take-take w (t * w - r * w) (drop (r * w) ws) room
+  row_front ws = front_part w (t * w) (r * w) ws (earlier w t r h)
 
   module _ (n : ℕ) (ws cs ws' cs' : List ℕ) (only : OnlyRow w t ws cs ws' cs') where
     pub row_kept : row w ws' r ≡ row w ws r
@@ -117,6 +109,6 @@ module _ (w t : ℕ) (ws : List ℕ) (fits : t * w + w ≤ length ws) where
   added_none s =
       let r = row w ws t in
       let rest = drop w (row w ws s) in
-      let none : drop w r ≡ [] = drop_take w w (drop (t * w) ws) ∙ ap (λ n. take n (drop w (drop (t * w) ws))) (let z : w - w ≡ 0 = omega arith in z) in
+      let none : drop w r ≡ [] = drop_of_length-le r (omega (arith, row_length w ws t fits)) in
       parts
       ∙ ap (put w t ws) (sym (ap (λ l. take w r ++ zip_with bit_xor l rest) none ∙ ap (λ l. take w r ++ l) (sym none) ∙ take-append-drop w r))

@@ -83,7 +83,7 @@ pub record Turn (n w t i : ℕ) (ws cs ws' cs' : List ℕ) (word k : ℕ) : Type
   pub constant : get_or cs' t 0 < 2
   pub onward : Onward (rows_to n w ws cs t) (row_at n w ws cs t) k (worked n w t ws' cs' i word)
 
-module _ (n w t i : ℕ) (ws cs : List ℕ) (inside : i < w) (clean : Clean n w t ws cs) where
+module _ {n w t : ℕ} {ws cs : List ℕ} (i : ℕ) (inside : i < w) (clean : Clean n w t ws cs) where
   pub turn_start : EmptyTo w t ws i → get_or (row w ws t) i 0 < 2 ^ 64 → Turn n w t i ws cs ws cs (get_or (row w ws t) i 0) 0
   unfolding row_at
   turn_start below lt =
@@ -97,8 +97,14 @@ module _ (n w t i : ℕ) (ws cs : List ℕ) (inside : i < w) (clean : Clean n w 
         onward = rw (sym whole) (onward_start (rows_to n w ws cs t) (row_at n w ws cs t));
       }
 
-module _ (n w t i : ℕ) (ws cs ws' cs' : List ℕ) (word k : ℕ) (inside : i < w) (room : t * w + w ≤ length ws') (fits : word < 2 ^ 64)
+module _ {n w t i : ℕ} {ws cs ws' cs' : List ℕ} {word k : ℕ} (inside : i < w) (here : Clean n w t ws cs) (fits : word < 2 ^ 64)
     (turn : Turn n w t i ws cs ws' cs' word k) where
+  room : t * w + w ≤ length ws'
+  room = omega (arith, turn.only.words, here.words)
+
+  room' : t < length cs'
+  room' = omega (arith, turn.only.constants, here.constants)
+
   target : List ℕ
   target = row w ws' t
 
@@ -107,7 +113,7 @@ module _ (n w t i : ℕ) (ws cs ws' cs' : List ℕ) (word k : ℕ) (inside : i <
   wide = row_length w ws' t room
 
   -- row s added, its words from word i + 1 on in memory and word i in the local
-  module _ (s head : ℕ) (room' : t < length cs') (clean : Clean n w s ws' cs') (below : EmptyTo w s ws' i)
+  module _ {s head : ℕ} (clean : Clean n w s ws' cs') (below : EmptyTo w s ws' i)
       (is : head ≡ get_or (row w ws' s) i 0) (head-fits : head < 2 ^ 64)
       (found : find (worked n w t ws' cs' i word) (rows_to n w ws cs t) ≡ some (row_at n w ws' cs' s)) where
     source : List ℕ
@@ -207,9 +213,9 @@ module _ (n w t i : ℕ) (ws cs ws' cs' : List ℕ) (word k : ℕ) (inside : i <
       from_whole back i (omega (arith, back_wide)) (rw back_at fits) back_below ∙ ap (from back i) back_at
       ∙ ap (λ (l : List ℕ). (set_of l * 2 ^ 64 + word) * 2 ^ (i * 64)) (drop-set-lt (suc i) target i word (omega arith))
 
-  pub turn_end : t < length cs' → WordsFit ws' → Reduced n w t i ws cs (set ws' (t * w + i) word) cs' k
+  pub turn_end : WordsFit ws' → Reduced n w t i ws cs (set ws' (t * w + i) word) cs' k
   unfolding back target row_at
-  turn_end room' words_fit = record {
+  turn_end words_fit = record {
     only =
         only_join w t ws cs ws' cs' (set ws' (t * w + i) word) cs' turn.only
         (rw (set_put w t ws' room i word inside) (rw (set-get_or cs' t 0) at (put_only w t ws' room back back_wide cs' (get_or cs' t 0))));

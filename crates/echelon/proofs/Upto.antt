@@ -57,9 +57,9 @@ pub record Upto (n w t : ℕ) (ws cs ps ws' cs' ps' : List ℕ) (pivots : List P
   pub few : additions ≤ t * 512
   pub fits : WordsFit ws'
 
-pub upto_start : (n w : ℕ) (ws cs ps : List ℕ) (pivots : List Pivot) → ListsPivots n w 0 ws cs pivots → WordsFit ws → Upto n w 0 ws cs ps ws cs ps pivots 0 0
+pub upto_start : {n w : ℕ} {ws cs : List ℕ} {pivots : List Pivot} (ps : List ℕ) → ListsPivots n w 0 ws cs pivots → WordsFit ws → Upto n w 0 ws cs ps ws cs ps pivots 0 0
 unfolding eliminated rows_to
-upto_start n w ws cs ps pivots dir fits = record {
+upto_start ps dir fits = record {
   words = refl;
   constants = refl;
   entries = refl;
@@ -113,7 +113,7 @@ stuck n w ws cs t (suc d) e =
 
 -- ---- one row more
 
-module _ (n w t : ℕ) (ws cs ps ws' cs' ps' : List ℕ) (pivots : List Pivot) (rank additions : ℕ)
+module _ {n w t : ℕ} {ws cs ps ws' cs' ps' : List ℕ} {pivots : List Pivot} {rank additions : ℕ}
     (so : Upto n w t ws cs ps ws' cs' ps' pivots rank additions) where
   st : State
   st = after n w ws cs t
@@ -132,7 +132,7 @@ module _ (n w t : ℕ) (ws cs ps ws' cs' ps' : List ℕ) (pivots : List Pivot) (
   unfolding st
   few_rows = ap length (sym so.rows) ∙ rows_length n w ws' cs' t
 
-  module _ (bound : n ≤ 512) (ws'' cs'' : List ℕ) (pivot : Option NewPivot) (k : ℕ) (f : Finished n w t ws' cs' ws'' cs'' pivot k) where
+  module _ {ws'' cs'' : List ℕ} {pivot : Option NewPivot} {k : ℕ} (bound : n ≤ 512) (f : Finished n w t ws' cs' ws'' cs'' pivot k) where
     left : Row
     left = row_at n w ws'' cs'' t
 
@@ -157,7 +157,7 @@ module _ (n w t : ℕ) (ws cs ps ws' cs' ps' : List ℕ) (pivots : List Pivot) (
         f.only.after' ∙ further cs' ∙ ap (drop 1) so.ahead' ∙ sym (further cs)
 
     clean_next : (r : ℕ) → r < suc t → Clean n w r ws'' cs''
-    clean_next = clean_all n w t ws'' cs'' pivots (directory_kept n w t ws' cs' ws'' cs'' pivots f.only so.directory) f.clean
+    clean_next = clean_all n w t ws'' cs'' pivots (directory_kept f.only so.directory) f.clean
 
     few_next : additions + k ≤ suc t * 512
     few_next = omega (arith, so.few, f.few)
@@ -183,7 +183,7 @@ module _ (n w t : ℕ) (ws cs ps ws' cs' ps' : List ℕ) (pivots : List Pivot) (
     }
 
     directory_here : ListsPivots n w t ws'' cs'' pivots
-    directory_here = directory_kept n w t ws' cs' ws'' cs'' pivots f.only so.directory
+    directory_here = directory_kept f.only so.directory
 
     -- the row is left empty with constant 0
     empty_left : pivot ≡ None → empty left.atoms ≡ true
@@ -200,7 +200,7 @@ module _ (n w t : ℕ) (ws cs ps ws' cs' ps' : List ℕ) (pivots : List Pivot) (
         (directory_empty n w t ws'' cs'' pivots directory_here f.clean none)
 
     -- it has a new lowest atom
-    module _ (p : NewPivot) (pivot_is : pivot ≡ Some p) where
+    module _ {p : NewPivot} (pivot_is : pivot ≡ Some p) where
       pub new_pivot : IsNewPivot n w t ws'' cs'' p.head p.lowest.0
       new_pivot = rw pivot_is at f.pivot_is
 

@@ -80,11 +80,3 @@ ready_here n m ws cs ps shape fits atoms =
       entries = rw atoms fit.1;
       clean = rw (atoms, wide) (fit_clean n m ws cs fit.0);
     }
-
--- and as they are left
-pub left_there : (n m : ℕ) (ws cs ps : List ℕ) (o : Outcome Eliminated) (shape : Shape) → shape.atoms ≡ n
-    → o ≡ written shape.width (eliminated shape.atoms (rows_to shape.atoms shape.width ws cs m)) ws cs ps
-    → o ≡ written (width_of n) (eliminated n (rows_to n (width_of n) ws cs m)) ws cs ps
-left_there n m ws cs ps o shape atoms done =
-    let wide : shape.width ≡ width_of n = rw (← atoms) shape.wide in
-    rw (wide, atoms) at done

@@ -113,8 +113,8 @@ fn eliminate_fit(
     }
 }
 
-// Reduces m rows over n atoms in place, writes the basis, and says how many pivots and additions there were. "Rows in order; while a row has
-// a lowest atom whose pivot is an earlier row, that row is added (XOR, constants too; one addition)."
+// Reduces m rows over n atoms in place, writes the basis, and says how many pivots and additions there were. "Rows in order; while a row has a lowest
+// atom whose pivot is an earlier row, that row is added (XOR, constants too; one addition)." All is passed one by one, as `prepare` is lent it by C.
 #[tactic(auto, unfolding(crate::specs::Eliminate::eliminate_of))]
 pub fn eliminate(
     n: usize,

@@ -43,8 +43,9 @@ fn new_pivot(i: usize, word: u64) -> NewPivot
     }
 }
 
-// Adds the words of an earlier row from word i on to those of a later one: `rows::add_words`, which is private since it has a `requires`, with a
-// place to begin at. Where no word is left, and in a row of one word none is, the split would cost a tenth of the reduction.
+// Adds the words of an earlier row from word i on to those of a later one: `rows::add_words`, which is private since it has a `requires`, with a place
+// to begin at. Both ask that the target lies within, by its number: the row is split off from the rows before it. Where no word is left, and in a row
+// of one word none is, the split would cost a tenth of the reduction.
 fn add_words(rows: &mut [u64], width: usize, target: Source, source: Source, i: usize)
     requires earlier { source.0 < target.0 }
     requires within { target.0 * width + width ≤ length rows.old }
@@ -71,7 +72,8 @@ impl Rows<'_> {
             .position(|word| *word != 0)
     }
 
-    // Reduces word i of a row whose words before it are empty, until the word is empty or its lowest atom has no pivot.
+    // Reduces word i of a row whose words before it are empty, until the word is empty or its lowest atom has no pivot. (By `while`: each addition
+    // says whether there is another.)
     fn reduce_word<const N: usize>(
         &mut self,
         number: Source,

@@ -10,8 +10,9 @@ use rows::Source;
 
 pub mod promises;
 
-// Writes one row: the atoms named by the set bits of the coefficients, bit i for the i-th name. (`load` writes rows too, of the atoms that a record
-// names: the two share no more than the calls of `words`.)
+// Writes one row: the atoms named by the set bits of the coefficients, bit i for the i-th name; a bit past the names names nothing. (`load` writes rows
+// too, of the atoms that a record names: the two share no more than the calls of `words`.)
+#[tactic(auto, using(crate::proofs::Marking::marked_set, crate::proofs::Marking::marked_left, crate::proofs::Marking::marked_end))]
 fn write_row(row: &mut [u64], coefficients: u8, names: &[usize])
     ensures { row.new ≡ marked names.now coefficients (replicate (length row.old) 0) }
 {
@@ -66,7 +67,8 @@ fn write_rows(
     }
 }
 
-// Writes a hull's equations as rows over the atoms named, from row `first` on, and says whether it could.
+// Writes a hull's equations as rows over the atoms named, from row `first` on, and says whether it could. (A bool and no Result: there is nothing to
+// answer with but that, and C is told it as a number.)
 pub fn write(
     hull: Hull,
     names: &[usize],

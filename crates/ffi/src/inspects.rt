@@ -13,8 +13,8 @@ use region::{Answer, Region};
 use rows::Atom;
 use snapshot::{Ordinals, Snapshot};
 
-// A new region with number 0, or the number under which it is refused. This, `Published` and `Selected` below, and `Proposal` of hulls.rt are each a
-// number and a value, and no one generic struct: C knows their fields by name.
+// A new region with number 0, or the number under which it is refused. This, `Published` and `Selected` below, `Proposal` of hulls.rt and `Answered` of
+// files.rt are each a number and a value, and no one generic struct: C knows their fields by name.
 #[repr(C)]
 #[derive(Clone, Copy)]
 pub struct NewRegion {
@@ -120,8 +120,8 @@ impl From<(Result<(), Refusal>, Snapshot)> for Published {
     }
 }
 
-// An inspection's answer; where it is refused, with region and knowledge as they were passed. (No From: these two are the caller's, and
-// not of the answer.)
+// An inspection's answer; where it is refused, with region and knowledge as they were passed. (No From: these two are the caller's, and the triple that
+// it would be of would be built for this one call.)
 fn inspected(answer: Result<Inspected, Refusal>, region: Region, known: Snapshot) -> Inspection
     ensures { result ≡ inspected_answer region known answer }
 {

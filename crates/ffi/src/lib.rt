@@ -147,7 +147,7 @@ impl<T: Into<Answer>, E: Into<Answer>> From<Result<T, E>> for Answer {
     }
 }
 
-// The number under which a check refuses, or 0.
+// The number under which a check refuses, or 0. (No From: std's `usize` and Result cannot get one here.)
 fn number(check: Result<(), Refusal>) -> usize
     ensures { result ≡ number_in check }
 {
@@ -169,7 +169,7 @@ pub fn worzubil_popcount(word: u64) -> u32
     words::popcount(word)
 }
 
-// One step of the visit of a word's set bits, from the lowest up.
+// One step of the visit of a word's set bits, from the lowest up. (No From: of `SetBits` it would take a step of the visit, which is no conversion.)
 pub fn worzubil_next(word: u64) -> Step
     ensures { result ≡ next_answer (next_of (set_bits word)) }
 {

@@ -76,6 +76,7 @@ pub fn worzubil_column(index: &[u64], n: usize, rank: usize, atom: usize) -> Spa
     Span::from(fit.map(|()| (atom * length, length)))
 }
 
+// The number under which a column is refused, or 0, for C, which has no Result.
 pub fn worzubil_column_number(index: &[u64], n: usize, rank: usize, atom: usize) -> usize
     ensures { result ≡ number_in (column_check index.now n rank (atom_number atom)) }
 {

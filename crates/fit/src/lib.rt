@@ -13,8 +13,8 @@ use rows::Source;
 pub const LIMIT: usize = 512;
 
 // Whether a row has an atom from n on: only its last word can. (`index` asks the same of columns, which are filled up to 128 bits: two words to look
-// at, and with the unit as a parameter the test is longer than both. That the row lies within is asked here, and wherever one is read by its
-// number: a view of it would be made for each row of loops that look at one word.)
+// at, and with the unit as a parameter the test is longer than both. That the row lies within is asked: a view of it would be made for each turn of a
+// loop that looks at one word.)
 fn row_strays(rows: &[u64], n: usize, width: usize, number: Source) -> bool
     requires { (width ≡ width_of n) × (number.0 * width + width ≤ length rows.now) }
     ensures { result ≡ leb (2 ^ n) (set_of (row width rows.now number.0)) }
@@ -41,7 +41,8 @@ fn any_strays(rows: &[u64], constants: &[u8], n: usize, width: usize, m: usize) 
     stray
 }
 
-// Whether one of the first `rank` entries of a basis, as far as it has them, names none of m rows. No early exit here either.
+// Whether one of the first `rank` entries of a basis, as far as it has them, names none of m rows. No early exit here either. (The list is lent with
+// the rank, and may be longer: C lends it so.)
 #[tactic(auto, using(std::proofs::lemmas::Grind::common_steps, crate::proofs::Naming::misnames_start, crate::proofs::Naming::misnames_step))]
 pub fn any_misnames(basis: &[usize], m: usize, rank: usize) -> bool
     ensures { result ≡ misnames m basis.now (min rank (length basis.now)) }
@@ -54,7 +55,7 @@ pub fn any_misnames(basis: &[usize], m: usize, rank: usize) -> bool
     misnamed
 }
 
-// Whether m lent rows over n atoms and their constants are fit.
+// Whether m lent rows over n atoms and their constants are fit, all passed one by one, as C lends them to the calls that ask it.
 #[tactic(auto, unfolding(crate::specs::Rows::rows_check))]
 pub fn check_rows(n: usize, m: usize, rows: &[u64], constants: &[u8]) -> Result<(), Refusal>
     ensures { result ≡ rows_check n m rows.now constants.now }

@@ -13,8 +13,8 @@ ghost use Rattle.format.specs.Starts.{NextRecord};
 use hull::Hull;
 use refusal::Refusal;
 
-// What a record is; document 01 numbers the kinds from 1 in this order. What is done with each stands in a `match` where it is done: the kinds are
-// a closed set, and the check asks for every one.
+// What a record is; document 01 numbers the kinds from 1 in this order. What is done with each stands in a `match` where it is done, since the kinds
+// are a closed set; `_` stands for those with which nothing is done there.
 #[derive(Clone, Copy, Debug, PartialEq, Eq)]
 pub enum Kind {
     Atoms,
@@ -55,8 +55,8 @@ pub struct Record<'a> {
 }
 
 impl<'a> Record<'a> {
-    // Past the end 0, here and in the three below, and not None: that a record lies in its file is one check (`check_length` of `record`), made
-    // before any of its fields counts, so a None would be a case at every reader and change no answer.
+    // Past the end 0, here and in `short`, `word` and `atom`, and not None: that a record lies in its file is one check (`check_length` of `record`),
+    // made before any of its fields counts, so a None would be a case at every reader and change no answer.
     pub fn byte(self, i: usize) -> u8
         ensures { result ≡ byte_at self.entry.file.now (self.entry.offset + i) }
     {

@@ -1,8 +1,7 @@
 -- The equations as `equations` files them: those found so far, then blanks.
 use Prim.Native.Nat.{ℕ, ◌+◌, ◌-◌, ◌^◌, ◌≤◌, ◌<◌}
-use mathlib.Core.Path.{◌≡◌, refl, sym, ap, ap₂, ◌∙◌}
+use mathlib.Core.Path.{◌≡◌, sym, ap, ap₂, ◌∙◌}
 use mathlib.Core.List.{List, [], ◌∷◌, ◌++◌, append-nil}
-use native.Mathlib.Nat.{sub-zero}
 use native.Mathlib.Numerals.{add-one}
 use native.Mathlib.Omega.{arith}
 use borrow.Author.Tests.{eq-eqb, ne_eqb}
@@ -31,9 +30,6 @@ Filed anchor ps k free n es =
     (done : List LocalEquation) × (n ≡ length done) × (es ≡ padded limit done) × (done ++ listed anchor ps (k - free) free ≡ listed anchor ps k 0)
 
 module _ (anchor : ℕ) (ps : List ℕ) (k : ℕ) where
-  pub filed_start : Filed anchor ps k 0 0 (replicate limit blank)
-  filed_start = ([], refl, refl, ap (λ n. listed anchor ps n 0) (sub-zero k))
-
   module _ (free n : ℕ) (es : List LocalEquation) (f : Filed anchor ps k free n es) where
     pub filed_skip : {m : ℕ} {ds : List LocalEquation} → free < k → (get_or ps free 0 ≡ 0 → ⊥) → ds ≡ es → m ≡ n → Filed anchor ps k (free + 1) m ds
     unfolding listed

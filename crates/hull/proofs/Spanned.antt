@@ -74,6 +74,9 @@ found_fits k (a ∷ xs) s h e =
     let is : s ≡ basis k a ss (suc (length xs)) = cc in
     rw is (h, omega (arith, rank_le ss, length_found k a xs))
 
+pub count_few : (f : ℕ → Bool) (p n : ℕ) → count_by (λ i. not (f i)) (range_with_len p n) ≤ n
+count_few f p n = omega (arith, count_by-le-length (λ i. not (f i)) (range_with_len p n), length-range_with_len p n)
+
 module _ (f : ℕ → Bool) (k : ℕ) where
   -- the allowed patterns in two parts, how many they are, and those of patterns that are all forbidden
   split : (m n p : ℕ) → allowed_from f k (m + n) p ≡ allowed_from f k m p ++ allowed_from f k n (p + m)
@@ -99,7 +102,7 @@ module _ (f : ℕ → Bool) (k : ℕ) where
       either false x xs e = omega arith
 
   few : (n p : ℕ) → length (allowed_from f k n p) ≤ n
-  few n p = omega (arith, counted n p, count_by-le-length (λ i. not (f i)) (range_with_len p n), length-range_with_len p n)
+  few n p = omega (arith, counted n p, count_few f p n)
 
   none_allowed : (n p : ℕ) → ((q : ℕ) → q < p + n → f q ≡ true) → allowed_from f k n p ≡ []
   unfolding allowed_from
@@ -122,7 +125,7 @@ module _ (f : ℕ → Bool) (k : ℕ) where
     abbrev after : ℕ → List Pattern
     after p = allowed_from f k (p - (a + 1)) (a + 1)
 
-    abbrev pub basis_to : ℕ → Basis
+    unfoldable pub basis_to : ℕ → Basis
     basis_to p = basis k x (pivots_from x (replicate k none) (after p)) (suc (length (after p)))
 
     after_split : (p n : ℕ) → a < p → after (p + n) ≡ after p ++ allowed_from f k n p
@@ -132,7 +135,7 @@ module _ (f : ℕ → Bool) (k : ℕ) where
         rw m (split (p - (a + 1)) n (a + 1) ∙ ap (λ i. after p ++ allowed_from f k n i) at)
 
     pub to_start : k ≤ limit → a < 2 ^ k → basis_to (a + 1) ≡ record { anchor = a; pivots = replicate limit 0; rank = 0; allowed = 1 }
-    unfolding allowed_from pivots_from
+    unfolding basis_to allowed_from pivots_from
     to_start h l =
         let none_yet : a + 1 - (a + 1) ≡ 0 = omega arith in
         ap (λ n. let xs = allowed_from f k n (a + 1) in basis k x (pivots_from x (replicate k none) xs) (suc (length xs))) none_yet
@@ -140,46 +143,52 @@ module _ (f : ℕ → Bool) (k : ℕ) where
         ∙ ap (λ m. record { anchor = m; pivots = replicate limit 0; rank = 0; allowed = 1 }) (mask_atoms k a l)
 
     pub to_skip : (p : ℕ) → a < p → f p ≡ true → basis_to (p + 1) ≡ basis_to p
+    unfolding basis_to
     to_skip p h b = ap (λ xs. basis k x (pivots_from x (replicate k none) xs) (suc (length xs))) (after_split p 1 h ∙ rw (none_one p b) (append-nil (after p)))
 
-    pub to_see : (p : ℕ) → a < p → p < 2 ^ k → f p ≡ false → basis_to (p + 1) ≡ seen k (basis_to p) p
-    unfolding pivots_from
+    pub to_see : (p : ℕ) → a < p → p < 2 ^ k → f p ≡ false → seen k (basis_to p) p ≡ basis_to (p + 1)
+    unfolding basis_to pivots_from
     to_see p h l b =
         let xs = after p in
         let y = atoms_of k p in
         let more : suc (length xs + 1) ≡ suc (length xs) + 1 = omega arith in
-        ap (λ l. basis k x (pivots_from x (replicate k none) l) (suc (length l))) (after_split p 1 h ∙ ap (λ l. xs ++ l) (one p b))
+        sym (ap (λ l. basis k x (pivots_from x (replicate k none) l) (suc (length l))) (after_split p 1 h ∙ ap (λ l. xs ++ l) (one p b))
         ∙ ap₂ (λ ss n. basis k x ss (suc n)) (pivots_append x (replicate k none) xs (y ∷ [])) (length-append xs (y ∷ []))
         ∙ ap (basis k x (enter (pivots_from x (replicate k none) xs) (plus x y))) more
         ∙ sym (seen_basis k x y (pivots_from x (replicate k none) xs) (suc (length xs)) (length_found k x xs) (atoms_length k a))
-        ∙ ap (seen k (basis_to p)) (mask_atoms k p l)
+        ∙ ap (seen k (basis k x (pivots_from x (replicate k none) xs) (suc (length xs)))) (mask_atoms k p l))
 
     pub to_full : (p n : ℕ) → a < p → (basis_to p).rank ≡ k
-        → basis_to (p + n) ≡ record (basis_to p) { allowed = (basis_to p).allowed + count_by (λ i. not (f i)) (range_with_len p n) }
+        → record (basis_to p) { allowed = (basis_to p).allowed + count_by (λ i. not (f i)) (range_with_len p n) } ≡ basis_to (p + n)
+    unfolding basis_to
     to_full p n h full =
         let xs = after p in
         let ys = allowed_from f k n p in
         let ss = pivots_from x (replicate k none) xs in
         let more : suc (length xs + length ys) ≡ suc (length xs) + count_by (λ i. not (f i)) (range_with_len p n) = omega (arith, counted n p) in
-        ap (λ l. basis k x (pivots_from x (replicate k none) l) (suc (length l))) (after_split p n h)
+        sym (ap (λ l. basis k x (pivots_from x (replicate k none) l) (suc (length l))) (after_split p n h)
         ∙ ap₂ (λ ss n. basis k x ss (suc n)) (pivots_append x (replicate k none) xs ys ∙ pivots_full x ss ys (full ∙ sym (length_found k x xs))) (length-append xs ys)
-        ∙ ap (basis k x ss) more
+        ∙ ap (basis k x ss) more)
 
     pub to_few : (p : ℕ) → a < p → ((basis_to p).allowed ≤ p) × ((basis_to p).rank ≤ k)
+    unfolding basis_to
     to_few p h = (
       omega (arith, few (p - (a + 1)) (a + 1)),
       omega (arith, rank_le (pivots_from x (replicate k none) (after p)), length_found k x (after p)),
     )
 
-    pub found_some : a < 2 ^ k → f a ≡ false → ((q : ℕ) → q < a → f q ≡ true) → found k (allowed_from f k (2 ^ k) 0) ≡ Some (basis_to (2 ^ k))
-    found_some l b h =
-        let m = 2 ^ k - (a + 1) in
+    -- the basis at the end of the patterns is what `found` says
+    pub found_some : (p : ℕ) → p ≡ 2 ^ k → a < p → f a ≡ false → ((q : ℕ) → q < a → f q ≡ true)
+        → Some (basis_to p) ≡ found k (allowed_from f k (2 ^ k) 0)
+    unfolding basis_to
+    found_some p e l b h =
+        let m = p - (a + 1) in
         let all : 2 ^ k ≡ a + (1 + m) = omega arith in
         let before : allowed_from f k a 0 ≡ [] = none_allowed a 0 (λ q i. h q (omega arith)) in
         let at : 0 + a ≡ a = omega arith in
-        ap (found k)
+        sym (ap (found k)
         (ap (λ n. allowed_from f k n 0) all ∙ split a (1 + m) 0
-        ∙ ap₂ ◌++◌ before (ap (allowed_from f k (1 + m)) at ∙ split 1 m a ∙ ap (λ l. l ++ allowed_from f k m (a + 1)) (one a b)))
+        ∙ ap₂ ◌++◌ before (ap (allowed_from f k (1 + m)) at ∙ split 1 m a ∙ ap (λ l. l ++ allowed_from f k m (a + 1)) (one a b))))
 
   pub found_none : ((q : ℕ) → q < 2 ^ k → f q ≡ true) → found k (allowed_from f k (2 ^ k) 0) ≡ None
   found_none h = ap (found k) (none_allowed (2 ^ k) 0 (λ q l. h q (omega arith)))

@@ -26,45 +26,47 @@ one_shl w j h = shl_exact {a = 1} 1 j w (omega arith) (omega arith) ∙ one-mul 
 pub left_more : (n i : ℕ) → i < n → n - i ≡ suc (n - (i + 1))
 left_more n i h = omega arith
 
--- The pivots below position j stand, and what is left of the difference there is d.
-pub record Entering (ps : List ℕ) (j d : ℕ) (end : List ℕ × Bool) : Type 0 where
+-- The pivots stand as they were, qs, and what is left of the difference at position j is d.
+pub record Entering (ps qs : List ℕ) (j d : ℕ) (end : List ℕ × Bool) : Type 0 where
+  pub stand : qs ≡ ps
   pub pivots : end.0 ≡ take j ps ++ (entered j (drop j ps) d).0
   pub came : end.1 ≡ (entered j (drop j ps) d).1
 
-module _ (ps : List ℕ) (d : ℕ) where
-  module _ (j : ℕ) (end : List ℕ × Bool) (e : Entering ps j d end) where
-    pub enter_end : length ps ≤ j → (ps ≡ end.0) × (false ≡ end.1)
+module _ (ps qs : List ℕ) (j d : ℕ) (end : List ℕ × Bool) (e : Entering ps qs j d end) where
+  pub enter_end : length ps ≤ j → (qs ≡ end.0) × (false ≡ end.1)
+  unfolding entered
+  enter_end h =
+      let none : drop j ps ≡ [] = drop_of_length-le ps h in
+      (e.stand ∙ sym (take-append-drop j ps) ∙ ap (λ l. take j ps ++ l) none ∙ rw none at (sym e.pivots), rw none at (sym e.came))
+
+  module _ (h : j < length ps) where
+    pub enter_set : bit_and (d / 2 ^ j) 1 ≡ 1 → get_or qs j 0 ≡ 0 → (set qs j d ≡ end.0) × (true ≡ end.1)
     unfolding entered
-    enter_end h =
-        let none : drop j ps ≡ [] = drop_of_length-le ps h in
-        (sym (take-append-drop j ps) ∙ ap (λ l. take j ps ++ l) none ∙ rw none at (sym e.pivots), rw none at (sym e.came))
+    enter_set b z =
+        let next : drop j ps ≡ get_or ps j 0 ∷ drop (suc j) ps = drop-cons ps j 0 h in
+        let is : entered j (drop j ps) d ≡ (d ∷ drop (suc j) ps, true) = rw next (rw (eq-eqb _ _ b, eq-eqb _ _ (rw e.stand at z))) in (
+          ap (λ l. set l j d) e.stand ∙ sym (take-append-drop j (set ps j d)) ∙ ap₂ ◌++◌ (take-set ps j d) (drop-set ps j d h ∙ ap (λ i. d ∷ drop i ps) (add-one j))
+              ∙ ap (λ (p : List ℕ × Bool). take j ps ++ p.0) (sym is) ∙ sym e.pivots,
+          ap (λ (p : List ℕ × Bool). p.1) (sym is) ∙ sym e.came,
+        )
 
-    module _ (h : j < length ps) where
-      pub enter_set : bit_and (d / 2 ^ j) 1 ≡ 1 → get_or ps j 0 ≡ 0 → (set ps j d ≡ end.0) × (true ≡ end.1)
-      unfolding entered
-      enter_set b z =
-          let next : drop j ps ≡ get_or ps j 0 ∷ drop (suc j) ps = drop-cons ps j 0 h in
-          let is : entered j (drop j ps) d ≡ (d ∷ drop (suc j) ps, true) = rw next (rw (eq-eqb _ _ b, eq-eqb _ _ z)) in (
-            sym (take-append-drop j (set ps j d)) ∙ ap₂ ◌++◌ (take-set ps j d) (drop-set ps j d h ∙ ap (λ i. d ∷ drop i ps) (add-one j))
-                ∙ ap (λ (p : List ℕ × Bool). take j ps ++ p.0) (sym is) ∙ sym e.pivots,
-            ap (λ (p : List ℕ × Bool). p.1) (sym is) ∙ sym e.came,
-          )
-
-      next_turn : (d' : ℕ) → entered j (drop j ps) d ≡ (get_or ps j 0 ∷ (entered (suc j) (drop (suc j) ps) d').0, (entered (suc j) (drop (suc j) ps) d').1)
-          → Entering ps (j + 1) d' end
-      next_turn d' is = rw (add-one j) (record {
+    module _ {rs : List ℕ} {d' : ℕ} (same : rs ≡ qs) where
+      next_turn : entered j (drop j ps) d ≡ (get_or ps j 0 ∷ (entered (suc j) (drop (suc j) ps) d').0, (entered (suc j) (drop (suc j) ps) d').1)
+          → Entering ps rs (j + 1) d' end
+      next_turn is = rw (add-one j) (record {
+        stand = same ∙ e.stand;
         pivots = e.pivots ∙ ap (λ (p : List ℕ × Bool). take j ps ++ p.0) is ∙ sym (append_snoc (take j ps) (get_or ps j 0) _)
             ∙ ap (λ l. l ++ (entered (suc j) (drop (suc j) ps) d').0) (sym (take_more ps j 0 h) ∙ ap (λ i. take i ps) (add-one j));
         came = e.came ∙ ap (λ (p : List ℕ × Bool). p.1) is;
       })
 
-      pub enter_add : bit_and (d / 2 ^ j) 1 ≡ 1 → (get_or ps j 0 ≡ 0 → ⊥) → Entering ps (j + 1) (bit_xor d (get_or ps j 0)) end
+      pub enter_add : d' ≡ bit_xor d (get_or qs j 0) → bit_and (d / 2 ^ j) 1 ≡ 1 → (get_or qs j 0 ≡ 0 → ⊥) → Entering ps rs (j + 1) d' end
       unfolding entered
-      enter_add b z = next_turn _ (rw (drop-cons ps j 0 h) (rw (eq-eqb _ _ b, ne_eqb _ _ z)))
+      enter_add left b z = next_turn (rw (left, e.stand, drop-cons ps j 0 h) (rw (eq-eqb _ _ b, ne_eqb _ _ (rw e.stand at z))))
 
-      pub enter_skip : (bit_and (d / 2 ^ j) 1 ≡ 1 → ⊥) → Entering ps (j + 1) d end
+      pub enter_skip : d' ≡ d → (bit_and (d / 2 ^ j) 1 ≡ 1 → ⊥) → Entering ps rs (j + 1) d' end
       unfolding entered
-      enter_skip b = next_turn _ (rw (drop-cons ps j 0 h) (rw (ne_eqb _ _ b)))
+      enter_skip left b = next_turn (rw (left, drop-cons ps j 0 h) (rw (ne_eqb _ _ b)))
 
 pub reach_turn : (ps : List ℕ) (j c : ℕ) → 0 < j → reach ps j c ≡ reach ps (j - 1) (bit_xor c (bit (odd (ones (bit_and c (get_or ps (j - 1) 0)))) * 2 ^ (j - 1)))
 unfolding reach

@@ -1,5 +1,6 @@
 // The equations of a table: a port of hull.rs. The smallest affine set that holds the patterns which a table allows, as equations.
-// (k and the table's words are passed one by one, as C lends them.) Every call is total; specs/Propose.antt has its answer, specs/Steps.antt what the private functions do on the way to it.
+// (k and the table's words are passed one by one, as C lends them.) Every call is total; specs/Propose.antt has its answer, specs/Steps.antt what the
+// private functions do on the way to it.
 #![tactic(auto)]
 
 ghost use Rattle.std.specs.Prelude.{◌≡◌, ℕ, ◌^◌, ◌-◌, ◌*◌, ◌/◌, ◌≤◌, ◌<◌, true, false, [], min, length, replicate, not, count_by, MatchOption};
@@ -42,9 +43,9 @@ pub struct Hull {
     pub exact: bool,
 }
 
-// The anchor, the least-bit echelon of the differences from it, and how many patterns were allowed. A pivot of 0 is none: what enters is not 0, and
-// a reduction adds it as it is. (k is passed beside it: as a field with its bound, the definitions that make a basis of any k would have the bound in
-// them.)
+// The anchor, the least-bit echelon of the differences from it, and how many patterns were allowed. A pivot of 0 is none, and no Option: what enters is
+// never 0, and an overlap with 0 is even, so that `equation` passes over it without a test. `rank` counts the pivots, which stand at their bits'
+// places. (k is passed beside it: as a field with its bound, the definitions that make a basis of any k would have the bound in them.)
 #[derive(Clone, Copy)]
 struct Basis {
     anchor: u8,
@@ -117,7 +118,7 @@ impl Basis {
         self.allowed += 1;
     }
 
-    // One equation for each place without a pivot, rising; the anchor gives its constant.
+    // One equation for each place without a pivot, rising; the anchor gives its constant. (The next place is counted, since that is how many there are.)
     fn equations(&self, k: usize) -> Hull
         requires { (k ≤ limit) × (self.now.rank ≤ k) }
         ensures { result ≡ listing k self.now }
@@ -142,8 +143,9 @@ impl Basis {
     }
 }
 
-// Whether a pattern is forbidden. With `words::contains` in its place, which asks at each pattern whether the table has that word,
-// `propose` of 8 atoms took a quarter longer.
+// Whether a pattern is forbidden. With `words::contains` in its place, which asks at each pattern whether the table has that word, `propose` of 8 atoms
+// took a quarter longer, timed when this form took 0.81 of the Rust's time (docs/PERFORMANCE.md, the first table): the other would have taken all of
+// it.
 fn is_forbidden(forbidden: &[u64], pattern: usize) -> bool
     requires { pattern / 64 < length forbidden.now }
     ensures { result ≡ forbids forbidden.now pattern }
@@ -151,7 +153,8 @@ fn is_forbidden(forbidden: &[u64], pattern: usize) -> bool
     forbidden[pattern / 64] & (1 << (pattern % 64)) != 0
 }
 
-// The first allowed pattern of n.
+// The first of so many patterns that is allowed. (That the table has them is asked here and in the two below: as a type, of words with k, it would be
+// made for `span` alone, and `propose` is lent the two apart.)
 fn first_allowed(forbidden: &[u64], patterns: usize) -> Option<usize>
     requires { patterns ≤ length forbidden.now * 64 }
     ensures { MatchOption result
@@ -171,8 +174,8 @@ fn count_allowed(forbidden: &[u64], first: usize, patterns: usize) -> usize
         .count()
 }
 
-// The span of the differences, where a pattern is allowed. (Patterns are numbers, whose bits the table has.) Full rank settles it, but not whether every pattern is allowed: the
-// others are still counted.
+// The span of the differences, where a pattern is allowed. (Patterns are numbers, whose bits the table has.) Full rank settles it, but not whether
+// every pattern is allowed: the others are still counted.
 fn span(k: usize, forbidden: &[u64]) -> Option<Basis>
     requires atoms { k ≤ limit }
     requires table { 2 ^ k ≤ length forbidden.now * 64 }
@@ -206,7 +209,8 @@ fn impossible() -> Hull
     }
 }
 
-// How many words a table of k atoms has; above the limit as many as at it.
+// How many words a table of k atoms has; above the limit as many as at it. (`index::column_width` rounds ranks up so; no crate that stands under both
+// speaks of units of 128 bits.)
 pub fn table_words(k: usize) -> usize
     ensures { result ≡ table_words (min k limit) }
 {

@@ -28,7 +28,8 @@ pub fn column_at(index: &[u64], width: usize, atom: Atom) -> Option<&[u64]>
     rows::part(index, width, atom.0)
 }
 
-// Whether a column has a bit from the rank on: only its last two words can. (`fit` asks the same of rows, which have but a last one.)
+// Whether a column has a bit from the rank on: only its last two words can. (`fit::row_strays` asks the same of rows, where only the last word can;
+// both ask that row or column lies within what is lent.)
 fn overranks(index: &[u64], rank: usize, width: usize, atom: Atom) -> bool
     requires { (width ≡ column_width rank) × (atom.0 * width + width ≤ length index.now) }
     ensures { result ≡ leb (2 ^ rank) (set_of (row width index.now atom.0)) }
@@ -82,8 +83,8 @@ pub fn check_column(index: &[u64], n: usize, rank: usize, atom: Atom) -> Result<
     Ok(())
 }
 
-// "The column of an atom is given back as that part of the lent index"; refused, it is the index's first 0 words, and no Option: a call that could
-// not fail still can't, and `check_column` says why.
+// "The column of an atom is given back as that part of the lent index"; refused, it is the index's first 0 words, and no Option: document 01 has this
+// call give back a part of the index, and `check_column` says why it is empty.
 #[tactic(auto, using(crate::proofs::Wanted::wanted_part), unfolding(crate::specs::Column::wanted_column))]
 pub fn column(index: &[u64], n: usize, rank: usize, atom: Atom) -> &[u64]
     ensures { result.now ≡ wanted_column index.now n rank atom }

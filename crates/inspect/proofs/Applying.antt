@@ -28,7 +28,7 @@ use Rattle.region.proofs.Deciding.{said, mask_at, taking, taken}
 use Rattle.inspect.specs.Batch.{Batch, begun, forced_on, next, applied}
 use Rattle.inspect.specs.Inspect.{atoms_from, values_from}
 use Rattle.inspect.specs.Steps.{forced_in, Applicable, applied_of, tallied, Forcible, Forcing}
-use Rattle.inspect.specs.declared.Applied.{Applied}
+use Rattle.inspect.specs.declared.apply.Applied.{Applied}
 use Rattle.inspect.specs.declared.apply.Tally.{Tally}
 use Rattle.inspect.proofs.Batches.{applied_length}
 
@@ -162,7 +162,7 @@ module _ (a : Atom) (v : Bool) (n : ℕ) (b : Batch) (can : Forcible b a.0) wher
     stands : (against : Bool) (w : Bool) → against ≡ not (beq w v) → was ≡ some w
         → tallied n held cut (record { held = t.held; cut = t.cut; against = against }) ≡ applied_of (next b (a.0, v))
     stands against w says e =
-        ap₂ (λ (s : Applied) (o : Bool). record { region = s.region; held = s.held; cut = s.cut; against = o }) is says
+        ap₂ (λ (s : Applied) (o : Bool). record { region = s.region; tally = record { held = s.tally.held; cut = s.tally.cut; against = o } }) is says
         ∙ ap applied_of (onward (some w) e)
 
     pub forcing_held : has (set_of held) a.0 ≡ true
@@ -179,8 +179,8 @@ module _ (a : Atom) (v : Bool) (n : ℕ) (b : Batch) (can : Forcible b a.0) wher
           ≡ applied_of (next b (a.0, v))
       forcing_open =
           let free = is_open_lem was (sym held_is ∙ unheld) (sym cut_is ∙ uncut) in
-          ap (λ (s : Applied). record { region = taking v s.region a.0; held = s.held + cond v 1 0; cut = s.cut + cond v 0 1; against = false }) is
-          ∙ ap (λ (r : Region). record { region = r; held = b.held + cond v 1 0; cut = b.cut + cond v 0 1; against = false }) (taking_is free)
+          ap (λ (s : Applied). record { region = taking v s.region a.0; tally = record { held = s.tally.held + cond v 1 0; cut = s.tally.cut + cond v 0 1; against = false } }) is
+          ∙ ap (λ (r : Region). record { region = r; tally = record { held = b.held + cond v 1 0; cut = b.cut + cond v 0 1; against = false } }) (taking_is free)
           ∙ ap applied_of (onward none free)
 
       pub forcing_into_held : (held' : List ℕ) → held' ≡ inserted held a.0 → v ≡ true
@@ -220,14 +220,13 @@ pub upto_start : (r : Region) (us vs : List ℕ) → region_of (decisions r) ≡
     → Upto r us vs 0 r.held r.cut (record { held = 0; cut = 0; against = false })
 unfolding applied zip_with
 upto_start r us vs back = record {
-  is = ap (λ (s : Region). record { region = s; held = 0; cut = 0; against = false }) (sym back);
+  is = ap (λ (s : Region). record { region = s; tally = record { held = 0; cut = 0; against = false } }) (sym back);
   going = refl;
   held_few = omega arith;
   cut_few = omega arith;
 }
 
-module _ (r : Region) (us vs : List ℕ) (forced : ℕ) (fit : Applicable r forced us vs) (i : ℕ) (turn : i < forced) (held cut : List ℕ) (t : Tally)
-    (u : Upto r us vs i held cut t) (held' cut' : List ℕ) (t' : Tally)
+module _ {r : Region} {us vs held cut held' cut' : List ℕ} {forced i : ℕ} {t t' : Tally} (fit : Applicable r forced us vs) (turn : i < forced) (u : Upto r us vs i held cut t)
     (made : Forcing (get_or us i 0) (eqb (get_or vs i 0) 1) held cut t held' cut' t') where
   abbrev so_far : Batch
   so_far = applied (begun (decisions r)) (forced_in us vs i)
@@ -239,7 +238,7 @@ module _ (r : Region) (us vs : List ℕ) (forced : ℕ) (fit : Applicable r forc
   forcible = record {
     few = omega (arith, long, (fitting r fit.fit).few);
     below = omega (arith, long, fit.below i turn);
-    going = sym (ap (λ (s : Applied). s.against) u.is) ∙ u.going;
+    going = sym (ap (λ (s : Applied). s.tally.against) u.is) ∙ u.going;
   }
 
   onto : tallied r.atoms held' cut' t' ≡ applied_of (next so_far (get_or us i 0, eqb (get_or vs i 0) 1))
@@ -257,12 +256,12 @@ module _ (r : Region) (us vs : List ℕ) (forced : ℕ) (fit : Applicable r forc
       record {
         is = after_is;
         going = e;
-        held_few = omega (arith, few.0, ap (λ (s : Applied). s.held) onto, ap (λ (s : Applied). s.held) u.is, u.held_few);
-        cut_few = omega (arith, few.1, ap (λ (s : Applied). s.cut) onto, ap (λ (s : Applied). s.cut) u.is, u.cut_few);
+        held_few = omega (arith, few.0, ap (λ (s : Applied). s.tally.held) onto, ap (λ (s : Applied). s.tally.held) u.is, u.held_few);
+        cut_few = omega (arith, few.1, ap (λ (s : Applied). s.tally.cut) onto, ap (λ (s : Applied). s.tally.cut) u.is, u.cut_few);
       }
 
   pub upto_against : t'.against ≡ true
       → tallied r.atoms held' cut' t' ≡ applied_of (applied (begun (decisions r)) (forced_in us vs forced))
   upto_against e =
       after_is
-      ∙ ap applied_of (sym (applied_stays (begun (decisions r)) us vs (i + 1) forced (omega arith) (sym (ap (λ (s : Applied). s.against) after_is) ∙ e)))
+      ∙ ap applied_of (sym (applied_stays (begun (decisions r)) us vs (i + 1) forced (omega arith) (sym (ap (λ (s : Applied). s.tally.against) after_is) ∙ e)))

@@ -38,9 +38,10 @@ pub record Fits (s : System) (l : Filled) (r : Region) (known : Snapshot) (atoms
 
 -- ---- both ways
 
-under_back : (a b : Bool) → (a ≡ true → b ≡ false) → (a && b) ≡ false
-under_back true b h = h refl
-under_back false b h = refl
+-- a test that never holds where another does
+pub where_never : (a b : Bool) → (a ≡ true → b ≡ false) → (a && b) ≡ false
+where_never true b h = h refl
+where_never false b h = refl
 
 module _ (s : System) (l : Filled) (r : Region) (known : Snapshot) (atoms values : ℕ) where
   pub checked_fits : inspect_check s l r known atoms values ≡ Ok tt → Fits s l r known atoms values
@@ -90,7 +91,7 @@ module _ (s : System) (l : Filled) (r : Region) (known : Snapshot) (atoms values
       let clash = passed (clashes r) _ _ stray.1 in
       let few = f.lent.atoms in
       let old : (known.initialized && ltb 512 known.atoms) ≡ false =
-      under_back _ _ (λ (set : known.initialized ≡ true). le-ltb 512 known.atoms (omega (arith, f.known_atoms set, f.same_atoms))) in
+      where_never _ _ (λ (set : known.initialized ≡ true). le-ltb 512 known.atoms (omega (arith, f.known_atoms set, f.same_atoms))) in
       let strange = strays_none s.atoms (width_of s.atoms) l.rows l.constants s.rows (λ j h. (f.lent.clean j h, f.lent.small j h)) in
       simp (
         le-ltb 512 s.atoms few,
@@ -108,8 +109,8 @@ module _ (s : System) (l : Filled) (r : Region) (known : Snapshot) (atoms values
         stray.0,
         clash.0,
         names_none s.rows l.basis s.rank f.named,
-        under_back (not s.refuted) (over_rank s.rank (column_width s.rank) l.index s.atoms) (λ sound. f.below_rank (not-true s.refuted sound)),
+        where_never (not s.refuted) (over_rank s.rank (column_width s.rank) l.index s.atoms) (λ sound. f.below_rank (not-true s.refuted sound)),
         eq-eqb r.atoms s.atoms f.same_atoms,
-        under_back known.initialized (not (eqb known.atoms r.atoms)) (λ set. ap not (eq-eqb _ _ (f.known_atoms set))),
+        where_never known.initialized (not (eqb known.atoms r.atoms)) (λ set. ap not (eq-eqb _ _ (f.known_atoms set))),
         f.ancestor,
       )

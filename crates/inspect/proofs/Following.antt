@@ -15,8 +15,7 @@ use Rattle.rows.proofs.Odd.{odd_suc}
 use Rattle.echelon.specs.Forward.{low}
 use Rattle.region.specs.Masks.{is_held, is_open}
 use Rattle.std.specs.Prelude.{Some, None, Ok, Err}
-use Rattle.inspect.specs.declared.Fault.TheVariants.{Wrong}
-use Rattle.inspect.specs.Consequences.{Reading, says_by, reading_of, Consequences, joins, consequences}
+use Rattle.inspect.specs.Consequences.{Reading, says_by, reading_of, Consequences, joins, consequences, wrong}
 
 -- ---- atoms of a row among those of a set: none, or one
 
@@ -118,7 +117,7 @@ module _ (p : Decisions) (x : Assignment) (agree : agrees p x ≡ true) where
     heeds_by zero e =
         let same : held + overlap opened x ≡ held = omega (arith, shared_none r.atoms (map is_open p) x e) in
         let right : beq (odd held) r.constant ≡ true = ap (λ (k : ℕ). beq (odd k) r.constant) (sym same) ∙ by_parts in
-        chosen (Heeds x) (beq (odd held) r.constant) (Ok None) (Err Wrong) (λ e. tt) (λ e. true≢false (sym right ∙ e))
+        chosen (Heeds x) (beq (odd held) r.constant) (Ok None) (Err wrong) (λ e. tt) (λ e. true≢false (sym right ∙ e))
     heeds_by (suc zero) e =
         one_more _ r.constant held (ap (λ (k : ℕ). beq (odd (held + k)) r.constant) (sym (shared_one r.atoms (map is_open p) x e)) ∙ by_parts)
     heeds_by (suc (suc k)) e = tt

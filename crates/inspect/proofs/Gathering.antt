@@ -10,7 +10,7 @@ use lib.Seq.{drop-drop, get_or-drop}
 use Rattle.rows.specs.Row.{Row}
 use Rattle.std.specs.Prelude.{Option, Some, None, Result, Ok, Err}
 use Rattle.inspect.specs.declared.Forced.{Forced}
-use Rattle.inspect.specs.declared.Fault.{Fault}
+use Rattle.inspect.specs.declared.Wrong.{Wrong}
 use Rattle.inspect.specs.declared.Contradiction.{Contradiction}
 use Rattle.inspect.specs.Consequences.{Reading, Consequences, reading_of, joins, consequences}
 use Rattle.inspect.specs.Inspect.{atoms_from, values_from}
@@ -61,7 +61,7 @@ behind_next : (fs : Entries) (o : Option Forced) (c : Consequences) → behind f
 behind_next fs None c = ap (λ (l : Entries). behind l c) (sym (append-nil fs))
 behind_next fs (Some f) c = ap (λ (l : Entries). record { forced = l; sound = c.sound }) (sym (append_assoc fs (noted (Some f)) c.forced))
 
-behind_wrong : (fs : Entries) (e : Fault) (c : Consequences) → behind fs (joins (Err e) c) ≡ record { forced = fs; sound = false }
+behind_wrong : (fs : Entries) (e : Wrong) (c : Consequences) → behind fs (joins (Err e) c) ≡ record { forced = fs; sound = false }
 behind_wrong fs e c = ap (λ (l : Entries). record { forced = l; sound = false }) (append-nil fs)
 
 -- ---- the lists written
@@ -109,67 +109,66 @@ pub record Gathering (held free ts : List Bool) (rs : List Row) (atoms values at
   pub values_are : values' ≡ values_from fs values
   pub ahead : consequences held free ts rs ≡ behind fs (consequences held free (drop j ts) (drop j rs))
 
-module _ (held free ts : List Bool) (rs : List Row) (atoms values : List ℕ) where
-  module _ (atoms' values' : List ℕ) (count i : ℕ) (so : Gathering held free ts rs atoms values atoms' values' count i) where
-    -- past rows that are not touched
-    pub gathering_skip : (j : ℕ) → i ≤ j → ((k : ℕ) → i ≤ k → k < j → get_or ts k false ≡ false)
-        → Gathering held free ts rs atoms values atoms' values' count j
-    gathering_skip j h none =
-        let far : i + (j - i) ≡ j = omega arith in
-        let left : consequences held free (drop i ts) (drop i rs) ≡ consequences held free (drop j ts) (drop j rs) =
-        skip held free (drop i ts) (drop i rs) (j - i) (λ k l. get_or-drop i ts k false ∙ none (i + k) (omega arith) (omega arith))
-        ∙ ap₂ (consequences held free) (drop-drop (j - i) i ts ∙ ap (λ (k : ℕ). drop k ts) far) (drop-drop (j - i) i rs ∙ ap (λ (k : ℕ). drop k rs) far) in
+module _ {held free ts : List Bool} {rs : List Row} {atoms values atoms' values' : List ℕ} {count i : ℕ} (so : Gathering held free ts rs atoms values atoms' values' count i) where
+  -- past rows that are not touched
+  pub gathering_skip : (j : ℕ) → i ≤ j → ((k : ℕ) → i ≤ k → k < j → get_or ts k false ≡ false)
+      → Gathering held free ts rs atoms values atoms' values' count j
+  gathering_skip j h none =
+      let far : i + (j - i) ≡ j = omega arith in
+      let left : consequences held free (drop i ts) (drop i rs) ≡ consequences held free (drop j ts) (drop j rs) =
+      skip held free (drop i ts) (drop i rs) (j - i) (λ k l. get_or-drop i ts k false ∙ none (i + k) (omega arith) (omega arith))
+      ∙ ap₂ (consequences held free) (drop-drop (j - i) i ts ∙ ap (λ (k : ℕ). drop k ts) far) (drop-drop (j - i) i rs ∙ ap (λ (k : ℕ). drop k rs) far) in
+      record {
+        fs = so.fs;
+        few = omega (arith, so.few);
+        number = so.number;
+        kept = so.kept;
+        kept' = so.kept';
+        atoms_are = so.atoms_are;
+        values_are = so.values_are;
+        ahead = so.ahead ∙ ap (behind so.fs) left;
+      }
+
+  -- all that follows is known
+  told : (b : Bool) → consequences held free ts rs ≡ record { forced = so.fs; sound = b }
+      → Gathered (consequences held free ts rs) (cond b (Ok count) (Err (record { forced = count }))) atoms values atoms' values'
+  told b is = record {
+    is = ap (λ (n : ℕ). let r : Result ℕ Contradiction = cond b (Ok n) (Err (record { forced = n })) in r) so.number ∙ ap collected_of (sym is);
+    atoms_are = so.atoms_are ∙ ap (λ (c : Consequences). atoms_from c.forced atoms) (sym is);
+    values_are = so.values_are ∙ ap (λ (c : Consequences). values_from c.forced values) (sym is);
+  }
+
+  pub gathering_end : length rs ≤ i → Gathered (consequences held free ts rs) (Ok count) atoms values atoms' values'
+  gathering_end h =
+      told true (so.ahead
+      ∙ ap (behind so.fs) (ap (consequences held free (drop i ts)) (drop_of_length-le rs h) ∙ nothing_left held free (drop i ts))
+      ∙ ap (λ (l : Entries). record { forced = l; sound = true }) (append-nil so.fs))
+
+  -- row i is touched
+  module _ (d : Row) (touched : get_or ts i false ≡ true) (h : i < length rs) where
+    read : (r : Reading) → r ≡ reading_of held free (get_or rs i d)
+        → consequences held free ts rs ≡ behind so.fs (joins r (consequences held free (drop (i + 1) ts) (drop (i + 1) rs)))
+    read r is =
+        so.ahead ∙ ap (behind so.fs)
+        (turn held free ts rs i d touched h ∙ ap₂ (λ (q : Reading) (k : ℕ). joins q (consequences held free (drop k ts) (drop k rs))) (sym is) (sym (add-one i)))
+
+    pub gathering_wrong : (e : Wrong) → Err e ≡ reading_of held free (get_or rs i d)
+        → Gathered (consequences held free ts rs) (Err (record { forced = count })) atoms values atoms' values'
+    gathering_wrong e is = told false (read (Err e) is ∙ behind_wrong so.fs e (consequences held free (drop (i + 1) ts) (drop (i + 1) rs)))
+
+    pub gathering_next : (o : Option Forced) → Ok o ≡ reading_of held free (get_or rs i d) → length rs ≤ length atoms → length rs ≤ length values
+        → {count' : ℕ} {atoms'' values'' : List ℕ} → count' ≡ count_noted o count → atoms'' ≡ atoms_noted o count atoms' → values'' ≡ values_noted o count values'
+        → Gathering held free ts rs atoms values atoms'' values'' count' (i + 1)
+    gathering_next o is room room' n a v =
+        let free : length so.fs < length atoms = omega (arith, so.few, so.number) in
+        let free' : length so.fs < length values = omega (arith, so.few, so.number) in
         record {
-          fs = so.fs;
-          few = omega (arith, so.few);
-          number = so.number;
-          kept = so.kept;
-          kept' = so.kept';
-          atoms_are = so.atoms_are;
-          values_are = so.values_are;
-          ahead = so.ahead ∙ ap (behind so.fs) left;
+          fs = so.fs ++ noted o;
+          few = omega (arith, n, count_few o count i so.few);
+          number = n ∙ ap (count_noted o) so.number ∙ number_noted o so.fs;
+          kept = ap length a ∙ atoms_kept o count atoms' ∙ so.kept;
+          kept' = ap length v ∙ values_kept o count values' ∙ so.kept';
+          atoms_are = a ∙ ap₂ (atoms_noted o) so.number so.atoms_are ∙ atoms_noted_lem o so.fs atoms free;
+          values_are = v ∙ ap₂ (values_noted o) so.number so.values_are ∙ values_noted_lem o so.fs values free';
+          ahead = read (Ok o) is ∙ behind_next so.fs o _;
         }
-
-    -- all that follows is known
-    told : (b : Bool) → consequences held free ts rs ≡ record { forced = so.fs; sound = b }
-        → Gathered (consequences held free ts rs) (cond b (Ok count) (Err (record { forced = count }))) atoms values atoms' values'
-    told b is = record {
-      is = ap (λ (n : ℕ). let r : Result ℕ Contradiction = cond b (Ok n) (Err (record { forced = n })) in r) so.number ∙ ap collected_of (sym is);
-      atoms_are = so.atoms_are ∙ ap (λ (c : Consequences). atoms_from c.forced atoms) (sym is);
-      values_are = so.values_are ∙ ap (λ (c : Consequences). values_from c.forced values) (sym is);
-    }
-
-    pub gathering_end : length rs ≤ i → Gathered (consequences held free ts rs) (Ok count) atoms values atoms' values'
-    gathering_end h =
-        told true (so.ahead
-        ∙ ap (behind so.fs) (ap (consequences held free (drop i ts)) (drop_of_length-le rs h) ∙ nothing_left held free (drop i ts))
-        ∙ ap (λ (l : Entries). record { forced = l; sound = true }) (append-nil so.fs))
-
-    -- row i is touched
-    module _ (d : Row) (touched : get_or ts i false ≡ true) (h : i < length rs) where
-      read : (r : Reading) → r ≡ reading_of held free (get_or rs i d)
-          → consequences held free ts rs ≡ behind so.fs (joins r (consequences held free (drop (i + 1) ts) (drop (i + 1) rs)))
-      read r is =
-          so.ahead ∙ ap (behind so.fs)
-          (turn held free ts rs i d touched h ∙ ap₂ (λ (q : Reading) (k : ℕ). joins q (consequences held free (drop k ts) (drop k rs))) (sym is) (sym (add-one i)))
-
-      pub gathering_wrong : (e : Fault) → Err e ≡ reading_of held free (get_or rs i d)
-          → Gathered (consequences held free ts rs) (Err (record { forced = count })) atoms values atoms' values'
-      gathering_wrong e is = told false (read (Err e) is ∙ behind_wrong so.fs e (consequences held free (drop (i + 1) ts) (drop (i + 1) rs)))
-
-      pub gathering_next : (o : Option Forced) → Ok o ≡ reading_of held free (get_or rs i d) → length rs ≤ length atoms → length rs ≤ length values
-          → (count' : ℕ) (atoms'' values'' : List ℕ) → count' ≡ count_noted o count → atoms'' ≡ atoms_noted o count atoms' → values'' ≡ values_noted o count values'
-          → Gathering held free ts rs atoms values atoms'' values'' count' (i + 1)
-      gathering_next o is room room' count' atoms'' values'' n a v =
-          let free : length so.fs < length atoms = omega (arith, so.few, so.number) in
-          let free' : length so.fs < length values = omega (arith, so.few, so.number) in
-          record {
-            fs = so.fs ++ noted o;
-            few = omega (arith, n, count_few o count i so.few);
-            number = n ∙ ap (count_noted o) so.number ∙ number_noted o so.fs;
-            kept = ap length a ∙ atoms_kept o count atoms' ∙ so.kept;
-            kept' = ap length v ∙ values_kept o count values' ∙ so.kept';
-            atoms_are = a ∙ ap₂ (atoms_noted o) so.number so.atoms_are ∙ atoms_noted_lem o so.fs atoms free;
-            values_are = v ∙ ap₂ (values_noted o) so.number so.values_are ∙ values_noted_lem o so.fs values free';
-            ahead = read (Ok o) is ∙ behind_next so.fs o _;
-          }

@@ -4,7 +4,7 @@ use mathlib.Core.Path.{◌≡◌, refl, sym, ap, ap₂, subst, ◌∙◌}
 use mathlib.Core.List.{List, [], ◌∷◌, map, zip_with}
 use mathlib.Core.Bool.{Bool, true, false, cond, xor, ◌&&◌, beq}
 use native.Mathlib.Omega.{arith}
-use borrow.Author.Tests.{eq-eqb, ne_eqb}
+use borrow.Author.Tests.{ne_eqb}
 use lib.ListN.{length, get_or, drop, length-map, get_or-append}
 use lib.Dec.{eqb}
 use Rattle.rows.specs.Row.{Row, overlap}
@@ -24,19 +24,18 @@ use Rattle.snapshot.specs.declared.Ordinals.{Ordinals}
 use Rattle.snapshot.specs.declared.Snapshot.{Snapshot}
 use Rattle.snapshot.proofs.Chosen.{touched_length, chosen_atoms}
 use Rattle.std.specs.Prelude.{Some, None, Result, Ok, Err}
-use Rattle.inspect.specs.declared.Fault.TheVariants.{Wrong}
 use Rattle.inspect.specs.declared.Contradiction.{Contradiction}
 use Rattle.inspect.specs.declared.Inspected.{Inspected}
 use Rattle.inspect.specs.declared.Step.{Step}
 use Rattle.inspect.specs.declared.Step.TheVariants.{Unchanged, Refuted}
-use Rattle.inspect.specs.Consequences.{Reading, Consequences, says_by, reading_of, joins, consequences}
+use Rattle.inspect.specs.Consequences.{Reading, Consequences, says_by, reading_of, joins, consequences, wrong}
 use Rattle.inspect.specs.Batch.{begun, applied}
 use Rattle.inspect.specs.Inspect.{Filled, told_of, Outcome, outcome, atoms_from, values_from, ended, concluded, found, inspect_check, inspected, inspect_of}
 use Rattle.inspect.specs.Promises.{basis_in}
 use Rattle.parity.specs.Named.{Named}
 use Rattle.parity.proofs.Naming.{named_of}
-use Rattle.inspect.specs.Steps.{Gathered, forced_in}
-use Rattle.inspect.proofs.Fits.{Fits}
+use Rattle.inspect.specs.Steps.{Gathered, Applicable, forced_in}
+use Rattle.inspect.proofs.Fits.{Fits, checked_fits}
 use Rattle.inspect.proofs.Following.{chosen}
 use Rattle.inspect.proofs.Applying.{forced_back}
 
@@ -66,7 +65,7 @@ joins_below held free r c rest = go (overlap r.atoms free) _ _ refl
     go : (k : ℕ) (parity constant : Bool) → overlap r.atoms free ≡ k
         → Below (length free) (joins (says_by k parity constant (low (zip_with ◌&&◌ r.atoms free))) c).forced
     go zero parity constant e =
-        chosen (λ (q : Reading). Below (length free) (joins q c).forced) (beq parity constant) (Ok None) (Err Wrong) (λ t. rest)
+        chosen (λ (q : Reading). Below (length free) (joins q c).forced) (beq parity constant) (Ok None) (Err wrong) (λ t. rest)
         (λ t i h. let z : ⊥ = omega arith in absurd z)
     go (suc zero) parity constant e =
         let atom = low (zip_with ◌&&◌ r.atoms free) in
@@ -105,16 +104,6 @@ pub fits_named : (s : System) (l : Filled) (r : Region) (known : Snapshot) (atom
 fits_named s l r known atoms values fits =
     named_of s.atoms s.rows s.rank l.rows l.constants l.basis fits.lent fits.ranked fits.entries fits.named
 
--- what is collected by the ordinals that are selected is what the touched rows of the definition say
-pub gathered_by : (s : System) (l : Filled) (r : Region) (known : Snapshot) (atoms values : List ℕ) (touched : Ordinals) (collected : Result ℕ Contradiction) (atoms' values' : List ℕ)
-    → touched ≡ ordinals_of (touched_of s.rank l.index r known) → s.rank ≤ 512
-    → Gathered (consequences (map is_held (decisions r)) (map is_open (decisions r)) (atoms_of s.rank (set_of touched.words)) (basis_in s l)) collected atoms values atoms' values'
-    → Gathered (found s l r known) collected atoms values atoms' values'
-gathered_by s l r known atoms values touched collected atoms' values' is few =
-    subst (λ (ts : List Bool). Gathered (consequences (map is_held (decisions r)) (map is_open (decisions r)) ts (basis_in s l)) collected atoms values atoms' values')
-    (ap (λ (o : Ordinals). atoms_of s.rank (set_of o.words)) is
-    ∙ chosen_atoms s.rank (touched_of s.rank l.index r known) (touched_length s.rank l.index r known) few)
-
 -- a fit region is published
 pub publishes : (known : Snapshot) (r : Region) → region_check r ≡ Ok tt → (publish_of known r).1 ≡ published r
 unfolding publish_of
@@ -122,18 +111,8 @@ publishes known r fit = ap (λ check. left check (published r) known) fit
 
 -- ---- the call
 
-abbrev Answer : Type 0
+abbrev pub Answer : Type 0
 Answer = Result Inspected Refusal
-
--- what is fit is answered with what the touched rows come to
-pub fine_is : (s : System) (l : Filled) (r : Region) (known : Snapshot) (atoms values : List ℕ) → inspect_check s l r known (length atoms) (length values) ≡ Ok tt
-    → (i : Inspected) (atoms' values' : List ℕ) → outcome i atoms' values' ≡ inspected s l r known atoms values
-    → outcome {R = Answer} (Ok i) atoms' values' ≡ inspect_of s l r known atoms values
-unfolding inspect_of
-fine_is s l r known atoms values e i atoms' values' is =
-    let o = inspected s l r known atoms values in
-    ap (λ (p : Outcome Inspected). outcome {R = Answer} (Ok p.result) p.atoms p.values) is
-    ∙ ap (λ check. outcome (answered check o.result) (left check o.atoms atoms) (left check o.values values)) (sym e)
 
 module _ (s : System) (l : Filled) (r : Region) (known : Snapshot) (atoms values : List ℕ) where
   abbrev whole : Outcome Inspected
@@ -152,68 +131,90 @@ module _ (s : System) (l : Filled) (r : Region) (known : Snapshot) (atoms values
   pub refuted_is : s.refuted ≡ true → unread Refuted ≡ whole
   refuted_is t = sym (ap (λ (b : Bool). cond b (unread Refuted) (cond (eqb s.rank 0) (unread Unchanged) written)) t)
 
-  module _ (sound : s.refuted ≡ false) where
-    rest : cond (eqb s.rank 0) (unread Unchanged) written ≡ whole
-    rest = sym (ap (λ (b : Bool). cond b (unread Refuted) (cond (eqb s.rank 0) (unread Unchanged) written)) sound)
+  abbrev by : Bool → Inspected
+  by b = cond b (ended (applied (begun (decisions r)) c.forced) (length c.forced) r) (told_of Refuted 0 0 (length c.forced) r known)
 
-    -- "empty basis, Unchanged"
-    pub empty_is : s.rank ≡ 0 → unread Unchanged ≡ whole
-    empty_is z = sym (ap (λ (b : Bool). cond b (unread Unchanged) written) (eq-eqb s.rank 0 z)) ∙ rest
+  -- fit input, a sound system with a basis, and what its touched rows say collected
+  pub record Collected (touched : Ordinals) (collected : Result ℕ Contradiction) (atoms' values' : List ℕ) : Type 0 where
+    pub fine : inspect_check s l r known (length atoms) (length values) ≡ Ok tt
+    pub sound : s.refuted ≡ false
+    pub some : s.rank ≡ 0 → ⊥
+    pub selected : touched ≡ ordinals_of (touched_of s.rank l.index r known)
+    pub gathered : Gathered (consequences (map is_held (decisions r)) (map is_open (decisions r)) (atoms_of s.rank (set_of touched.words)) (basis_in s l)) collected atoms values atoms' values'
 
-    abbrev by : Bool → Inspected
-    by b = cond b (ended (applied (begun (decisions r)) c.forced) (length c.forced) r) (told_of Refuted 0 0 (length c.forced) r known)
+  module _ {touched : Ordinals} {collected : Result ℕ Contradiction} {atoms' values' : List ℕ} (given : Collected touched collected atoms' values') where
+    fit : Fits s l r known (length atoms) (length values)
+    fit = checked_fits s l r known (length atoms) (length values) given.fine
 
-    module _ (some : s.rank ≡ 0 → ⊥) (collected : Result ℕ Contradiction) (atoms' values' : List ℕ)
-        (gathered : Gathered c collected atoms values atoms' values') where
-      read : (b : Bool) → c.sound ≡ b → outcome (by b) atoms' values' ≡ whole
-      read b w =
-          ap (λ (t : Bool). outcome (by t) atoms' values') (sym w)
-          ∙ ap₂ (outcome (concluded c r known)) gathered.atoms_are gathered.values_are
-          ∙ sym (ap (λ (t : Bool). cond t (unread Unchanged) written) (ne_eqb s.rank 0 some)) ∙ rest
+    -- by the ordinals that are selected, which are the touched rows of the definition
+    gathered : Gathered c collected atoms values atoms' values'
+    gathered =
+        subst (λ (ts : List Bool). Gathered (consequences (map is_held (decisions r)) (map is_open (decisions r)) ts (basis_in s l)) collected atoms values atoms' values')
+        (ap (λ (o : Ordinals). atoms_of s.rank (set_of o.words)) given.selected
+        ∙ chosen_atoms s.rank (touched_of s.rank l.index r known) (touched_length s.rank l.index r known) (omega (arith, fit.ranked, fit.lent.atoms)))
+        given.gathered
 
-      -- "no open atom and wrong parity, Refuted, unpublished"
-      pub wrong_is : (e : Contradiction) → collected ≡ Err e → outcome (told_of Refuted 0 0 e.forced r known) atoms' values' ≡ whole
-      wrong_is e w = go c.sound refl (sym w ∙ gathered.is)
+    -- what they come to is the answer
+    read : (b : Bool) → c.sound ≡ b → (i : Inspected) → i ≡ by b → outcome {R = Answer} (Ok i) atoms' values' ≡ inspect_of s l r known atoms values
+    unfolding inspect_of
+    read b w i is =
+        ap (λ (p : Outcome Inspected). outcome {R = Answer} (Ok p.result) p.atoms p.values)
+        (ap (λ (j : Inspected). outcome j atoms' values') is ∙ ap (λ (t : Bool). outcome (by t) atoms' values') (sym w)
+        ∙ ap₂ (outcome (concluded c r known)) gathered.atoms_are gathered.values_are
+        ∙ sym (ap (λ (t : Bool). cond t (unread Unchanged) written) (ne_eqb s.rank 0 given.some))
+        ∙ sym (ap (λ (b : Bool). cond b (unread Refuted) (cond (eqb s.rank 0) (unread Unchanged) written)) given.sound))
+        ∙ ap (λ check. outcome (answered check whole.result) (left check whole.atoms atoms) (left check whole.values values)) (sym given.fine)
+
+    -- "no open atom and wrong parity, Refuted, unpublished"
+    pub wrong_is : (e : Contradiction) → collected ≡ Err e → outcome {R = Answer} (Ok (told_of Refuted 0 0 e.forced r known)) atoms' values' ≡ inspect_of s l r known atoms values
+    wrong_is e w = go c.sound refl (sym w ∙ gathered.is)
+      where
+        go : (b : Bool) → c.sound ≡ b → ◌≡◌ {A = Result ℕ Contradiction} (Err e) (cond b (Ok (length c.forced)) (Err (record { forced = length c.forced })))
+            → outcome {R = Answer} (Ok (told_of Refuted 0 0 e.forced r known)) atoms' values' ≡ inspect_of s l r known atoms values
+        go true t is = cc
+        go false t is =
+            let same : e.forced ≡ length c.forced = cc in
+            read false t _ (ap (λ (n : ℕ). told_of Refuted 0 0 n r known) same)
+
+    module _ (forced : ℕ) (fine : collected ≡ Ok forced) where
+      whole_list : (c.sound ≡ true) × (forced ≡ length c.forced)
+      whole_list = go c.sound refl (sym fine ∙ gathered.is)
         where
-          go : (b : Bool) → c.sound ≡ b → ◌≡◌ {A = Result ℕ Contradiction} (Err e) (cond b (Ok (length c.forced)) (Err (record { forced = length c.forced })))
-              → outcome (told_of Refuted 0 0 e.forced r known) atoms' values' ≡ whole
-          go true t is = cc
-          go false t is =
-              let same : e.forced ≡ length c.forced = cc in
-              ap (λ (n : ℕ). outcome (told_of Refuted 0 0 n r known) atoms' values') same ∙ read false t
+          go : (b : Bool) → c.sound ≡ b → ◌≡◌ {A = Result ℕ Contradiction} (Ok forced) (cond b (Ok (length c.forced)) (Err (record { forced = length c.forced })))
+              → (c.sound ≡ true) × (forced ≡ length c.forced)
+          go true t is = (t, cc)
+          go false t is = cc
 
-      module _ (forced : ℕ) (fine : collected ≡ Ok forced) where
-        whole_list : (c.sound ≡ true) × (forced ≡ length c.forced)
-        whole_list = go c.sound refl (sym fine ∙ gathered.is)
-          where
-            go : (b : Bool) → c.sound ≡ b → ◌≡◌ {A = Result ℕ Contradiction} (Ok forced) (cond b (Ok (length c.forced)) (Err (record { forced = length c.forced })))
-                → (c.sound ≡ true) × (forced ≡ length c.forced)
-            go true t is = (t, cc)
-            go false t is = cc
+      number : forced ≡ length c.forced
+      number = whole_list.1
 
-        number : forced ≡ length c.forced
-        number = whole_list.1
+      few : forced ≤ s.rank
+      few =
+          let p = decisions r in
+          omega (arith, number, touched_length s.rank l.index r known, forced_few (map is_held p) (map is_open p) (touched_of s.rank l.index r known) (basis_in s l))
 
-        forced_is : forced_in atoms' values' forced ≡ c.forced
-        forced_is = rw (gathered.atoms_are, gathered.values_are, number) (forced_back c.forced atoms values)
+      atoms_below : (i : ℕ) → i < forced → get_or atoms' i 0 < r.atoms
+      atoms_below i h =
+          let named = map (λ (f : ℕ × Bool). f.0) c.forced in
+          let free : length (map is_open (decisions r)) ≡ r.atoms = length-map (decisions r) is_open ∙ decisions_length r in
+          let inside : i < length c.forced = omega (arith, number) in
+          let within : i < length named = omega (arith, length-map c.forced (λ (f : ℕ × Bool). f.0)) in
+          let entry = ap (λ (l : List ℕ). get_or l i 0) gathered.atoms_are ∙ get_or-append named (drop (length c.forced) atoms) 0 i within in
+          omega (arith, free, entry, forced_below (map is_held (decisions r)) (map is_open (decisions r)) _ _ i inside)
 
-        -- what `apply` asks
-        pub few : forced ≤ s.rank
-        few =
-            let p = decisions r in
-            omega (arith, number, touched_length s.rank l.index r known, forced_few (map is_held p) (map is_open p) (touched_of s.rank l.index r known) (basis_in s l))
+      -- the list can be applied
+      pub applicable : length atoms' ≡ length atoms → length values' ≡ length values → Applicable r forced atoms' values'
+      applicable same_atoms same_values = record {
+        fit = fit.region;
+        few = omega (arith, few, fit.ranked, fit.lent.atoms);
+        atoms_room = omega (arith, few, fit.atoms_room);
+        values_room = omega (arith, few, fit.values_room);
+        below = atoms_below;
+      }
 
-        pub atoms_below : (i : ℕ) → i < forced → get_or atoms' i 0 < r.atoms
-        atoms_below i h =
-            let named = map (λ (f : ℕ × Bool). f.0) c.forced in
-            let free : length (map is_open (decisions r)) ≡ r.atoms = length-map (decisions r) is_open ∙ decisions_length r in
-            let inside : i < length c.forced = omega (arith, number) in
-            let within : i < length named = omega (arith, length-map c.forced (λ (f : ℕ × Bool). f.0)) in
-            let entry = ap (λ (l : List ℕ). get_or l i 0) gathered.atoms_are ∙ get_or-append named (drop (length c.forced) atoms) 0 i within in
-            omega (arith, free, entry, forced_below (map is_held (decisions r)) (map is_open (decisions r)) _ _ i inside)
+      forced_is : forced_in atoms' values' forced ≡ c.forced
+      forced_is = rw (gathered.atoms_are, gathered.values_are, number) (forced_back c.forced atoms values)
 
-        -- "Then publish the region as it came, and apply the list in order"
-        pub applied_is : outcome (ended (applied (begun (decisions r)) (forced_in atoms' values' forced)) forced r) atoms' values' ≡ whole
-        applied_is =
-            ap₂ (λ (fs : List (ℕ × Bool)) (n : ℕ). outcome (ended (applied (begun (decisions r)) fs) n r) atoms' values') forced_is number
-            ∙ read true whole_list.0
+      -- "Then publish the region as it came, and apply the list in order"
+      pub applied_is : outcome {R = Answer} (Ok (ended (applied (begun (decisions r)) (forced_in atoms' values' forced)) forced r)) atoms' values' ≡ inspect_of s l r known atoms values
+      applied_is = read true whole_list.0 _ (ap₂ (λ (fs : List (ℕ × Bool)) (n : ℕ). ended (applied (begun (decisions r)) fs) n r) forced_is number)

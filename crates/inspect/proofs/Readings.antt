@@ -18,9 +18,8 @@ use Rattle.rows.proofs.Digits.{atoms_overlap}
 use Rattle.echelon.specs.Forward as forward
 use Rattle.std.proofs.lemmas.Nat.{zero_from_ones}
 use Rattle.parity.proofs.Single.{low_atoms}
-use Rattle.std.specs.Prelude.{Some, None, Ok, Err}
-use Rattle.inspect.specs.declared.Fault.TheVariants.{Wrong}
-use Rattle.inspect.specs.Consequences.{Reading, says_by, reading_of}
+use Rattle.std.specs.Prelude.{Option, Some, None, Ok, Err}
+use Rattle.inspect.specs.Consequences.{Reading, says_by, reading_of, wrong}
 use Rattle.parity.specs.Named.{Legible}
 
 pub atoms_and : (n a b : ℕ) → zip_with ◌&&◌ (atoms_of n a) (atoms_of n b) ≡ atoms_of n (bit_and a b)
@@ -35,6 +34,11 @@ many : (k : ℕ) (p c : Bool) (a : ℕ) → 1 < k → Ok None ≡ says_by k p c 
 many zero p c a h = let z : ⊥ = omega arith in absurd z
 many (suc zero) p c a h = let z : ⊥ = omega arith in absurd z
 many (suc (suc k)) p c a h = refl
+
+-- what a row says by the lowest of its open atoms, which are one or none
+abbrev pub by_lowest : Bool → Bool → Option ℕ → Reading
+by_lowest p c None = cond (beq p c) (Ok None) (Err wrong)
+by_lowest p c (Some a) = Ok (Some (record { atom = record { 0 = a }; value = not (beq c p) }))
 
 no_ones : ones 0 ≡ 0
 unfolding ones
@@ -69,41 +73,26 @@ module _ (n : ℕ) (ws cs : List ℕ) (s held free : ℕ) (fit : Legible n ws cs
   module _ (p : Bool) (parity : p ≡ odd (ones (bit_and own held))) where
     -- with one
     says_forces : ones (bit_and own free) ≤ 1 → 0 < bit_and own free
-        → Ok (Some (record { atom = record { 0 = low (bit_and own free) }; value = not (beq (eqb (get_or cs s 0) 1) p) })) ≡ says
+        → by_lowest p (eqb (get_or cs s 0) 1) (Some (low (bit_and own free))) ≡ says
     unfolding xor
     says_forces few some =
         let one : ones (bit_and own free) ≡ 1 = omega (arith, single_most (bit_and own free) some) in
         let below = lt_of_le_of_lt (and_le_l own free) fit.below in
-        ap₂ (λ (b : ℕ) (q : Bool). let r : Reading = Ok (Some (record { atom = record { 0 = b }; value = not (beq (eqb (get_or cs s 0) 1) q) })) in r)
-        (sym (low_atoms n (bit_and own free) some below)) parity
+        ap₂ (λ (b : ℕ) (q : Bool). by_lowest q (eqb (get_or cs s 0) 1) (Some b)) (sym (low_atoms n (bit_and own free) some below)) parity
         ∙ ap (λ (k : ℕ). says_by k (odd (ones (bit_and own held))) (eqb (get_or cs s 0) 1) (forward.low (atoms_of n (bit_and own free)))) (sym one) ∙ said
 
     -- with none
-    says_whether : bit_and own free ≡ 0 → cond (beq p (eqb (get_or cs s 0) 1)) (Ok None) (Err Wrong) ≡ says
+    says_whether : bit_and own free ≡ 0 → by_lowest p (eqb (get_or cs s 0) 1) None ≡ says
     says_whether none =
         let zero-ones : ones (bit_and own free) ≡ 0 = ap ones none ∙ no_ones in
-        ap (λ (q : Bool). let r : Reading = cond (beq q (eqb (get_or cs s 0) 1)) (Ok None) (Err Wrong) in r) parity
+        ap (λ (q : Bool). by_lowest q (eqb (get_or cs s 0) 1) None) parity
         ∙ ap (λ (k : ℕ). says_by k (odd (ones (bit_and own held))) (eqb (get_or cs s 0) 1) (forward.low (atoms_of n (bit_and own free)))) (sym zero-ones) ∙ said
 
     -- by the lowest open atom, where there is at most one
-    pub said_some : ones (bit_and own free) ≤ 1 → (a : ℕ) → Some a ≡ cond (eqb (bit_and own free) 0) None (Some (low (bit_and own free)))
-        → Ok (Some (record { atom = record { 0 = a }; value = not (beq (eqb (get_or cs s 0) 1) p) })) ≡ says
-    said_some few a = go (eqb (bit_and own free) 0) refl
+    pub said_lowest : ones (bit_and own free) ≤ 1 → (a : Option ℕ) → a ≡ cond (eqb (bit_and own free) 0) None (Some (low (bit_and own free)))
+        → by_lowest p (eqb (get_or cs s 0) 1) a ≡ says
+    said_lowest few a is = rw is (go (eqb (bit_and own free) 0) refl)
       where
-        go : (t : Bool) → eqb (bit_and own free) 0 ≡ t → Some a ≡ cond t None (Some (low (bit_and own free)))
-            → Ok (Some (record { atom = record { 0 = a }; value = not (beq (eqb (get_or cs s 0) 1) p) })) ≡ says
-        go true e told = cc
-        go false e told =
-            let is : a ≡ low (bit_and own free) = cc in
-            let unempty = eqb-false (bit_and own free) 0 e in
-            ap (λ (b : ℕ). let r : Reading = Ok (Some (record { atom = record { 0 = b }; value = not (beq (eqb (get_or cs s 0) 1) p) })) in r) is
-            ∙ says_forces few (omega arith)
-
-    pub said_none : None ≡ cond (eqb (bit_and own free) 0) None (Some (low (bit_and own free)))
-        → cond (beq p (eqb (get_or cs s 0) 1)) (Ok None) (Err Wrong) ≡ says
-    said_none = go (eqb (bit_and own free) 0) refl
-      where
-        go : (t : Bool) → eqb (bit_and own free) 0 ≡ t → None ≡ cond t None (Some (low (bit_and own free)))
-            → cond (beq p (eqb (get_or cs s 0) 1)) (Ok None) (Err Wrong) ≡ says
-        go true e told = says_whether (eqb-true (bit_and own free) 0 e)
-        go false e told = cc
+        go : (t : Bool) → eqb (bit_and own free) 0 ≡ t → by_lowest p (eqb (get_or cs s 0) 1) (cond t None (Some (low (bit_and own free)))) ≡ says
+        go true e = says_whether (eqb-true (bit_and own free) 0 e)
+        go false e = let unempty = eqb-false (bit_and own free) 0 e in says_forces few (omega arith)

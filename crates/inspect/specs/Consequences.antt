@@ -7,17 +7,19 @@ use Rattle.words.specs.Set.{odd}
 use Rattle.rows.specs.Row.{Row, overlap}
 use Rattle.echelon.specs.Forward.{low}
 use Rattle.inspect.specs.declared.Forced.{Forced}
-use Rattle.inspect.specs.declared.Fault.{Fault}
-use Rattle.inspect.specs.declared.Fault.TheVariants.{Wrong}
+use Rattle.inspect.specs.declared.Wrong.{Wrong}
+
+abbrev pub wrong : Wrong
+wrong = record {}
 
 -- What a row says: an atom with its value, nothing, or that its parity is wrong.
 abbrev pub Reading : Type 0
-Reading = Result (Option Forced) Fault
+Reading = Result (Option Forced) Wrong
 
 -- A row by the number of its open atoms, the parity of its held ones, its constant, and its lowest open atom. A forced atom's value is the
 -- one that the row is met with.
 abbrev pub says_by : ℕ → Bool → Bool → ℕ → Reading
-says_by zero parity constant atom = cond (beq parity constant) (Ok None) (Err Wrong)
+says_by zero parity constant atom = cond (beq parity constant) (Ok None) (Err wrong)
 says_by (suc zero) parity constant atom = Ok (Some (record { atom = record { 0 = atom }; value = xor constant parity }))
 says_by (suc (suc k)) parity constant atom = Ok None
 

@@ -12,7 +12,7 @@ use Rattle.inspect.specs.declared.Forced.{Forced}
 use Rattle.inspect.specs.declared.Contradiction.{Contradiction}
 use Rattle.inspect.specs.declared.Masks.{Masks}
 use Rattle.parity.specs.declared.basis.Basis.{Basis}
-use Rattle.inspect.specs.declared.Applied.{Applied}
+use Rattle.inspect.specs.declared.apply.Applied.{Applied}
 use Rattle.inspect.specs.declared.apply.Tally.{Tally}
 use Rattle.inspect.specs.Consequences.{Reading, reading_of, Consequences}
 use Rattle.inspect.specs.Batch.{Batch, next}
@@ -66,16 +66,11 @@ pub record Applicable (r : Region) (forced : ℕ) (atoms values : List ℕ) : Ty
 
 -- A batch in words.
 abbrev pub applied_of : Batch → Applied
-applied_of b = record { region = region_of b.decisions; held = b.held; cut = b.cut; against = b.against }
+applied_of b = record { region = region_of b.decisions; tally = record { held = b.held; cut = b.cut; against = b.against } }
 
 -- The same by the masks of n atoms and the counts.
 abbrev pub tallied : ℕ → List ℕ → List ℕ → Tally → Applied
-tallied n held cut t = record {
-  region = record { atoms = n; held = held; cut = cut };
-  held = t.held;
-  cut = t.cut;
-  against = t.against;
-}
+tallied n held cut t = record { region = record { atoms = n; held = held; cut = cut }; tally = t }
 
 -- An atom can be forced on a batch: it is one of its up to 512 atoms, and none before was against.
 pub record Forcible (b : Batch) (a : ℕ) : Type 0 where

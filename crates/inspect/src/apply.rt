@@ -5,20 +5,26 @@ ghost use Rattle.region.specs.Masks.{decisions};
 ghost use Rattle.inspect.specs.Batch.{begun, applied};
 ghost use Rattle.inspect.specs.Steps.{Applicable, forced_in, applied_of, Forcing};
 
-use super::Applied;
 use region::Region;
 use rows::Atom;
 
-// How many atoms were decided as held and as cut, and whether one was decided otherwise: a flag and no Result, since the counts stand in
-// either case.
+// How many atoms were decided as held and as cut, and whether one was decided otherwise: a flag and no Result, since the counts, and the
+// decisions before that, stand in either case.
 #[derive(Clone, Copy)]
-struct Tally {
-    held: usize,
-    cut: usize,
-    against: bool,
+pub struct Tally {
+    pub held: usize,
+    pub cut: usize,
+    pub against: bool,
 }
 
-// One forced atom decided in the masks.
+// A region with forced atoms decided.
+#[derive(Clone, Copy)]
+pub struct Applied {
+    pub region: Region,
+    pub tally: Tally,
+}
+
+// One forced atom decided in the masks. (Not by `hold` and `cut`: they check the whole region at every atom, and here it was checked once.)
 fn force(held: &mut [u64; 8], cut: &mut [u64; 8], tally: Tally, atom: Atom, value: bool) -> Tally
     requires { (tally.held < 512) × (tally.cut < 512) }
     ensures { Forcing atom.0 value held.old cut.old tally held.new cut.new result }
@@ -51,7 +57,7 @@ fn force(held: &mut [u64; 8], cut: &mut [u64; 8], tally: Tally, atom: Atom, valu
     }
 }
 
-// The whole list applied, up to an atom decided otherwise.
+// The whole list applied, up to an atom decided otherwise. (Two lists, as C lends them, and how many entries `collect` wrote.)
 pub fn apply(region: Region, forced: usize, atoms: &[usize], values: &[u8]) -> Applied
     requires { Applicable region forced atoms.now values.now }
     ensures { result ≡ applied_of (applied (begun (decisions region)) (forced_in atoms.now values.now forced)) }
@@ -75,8 +81,6 @@ pub fn apply(region: Region, forced: usize, atoms: &[usize], values: &[u8]) -> A
             held,
             cut,
         },
-        held: tally.held,
-        cut: tally.cut,
-        against: tally.against,
+        tally,
     }
 }

@@ -1,4 +1,5 @@
-// Whether what `inspect` is asked is fit: document 01's numbers 10, 13 for the rank, 9, 11, 12, 13 for a basis entry, 14, 15, 16.
+// Whether what `inspect` is asked is fit: document 01's numbers 10, 13 for the rank, 9, 11, 12, 13 for a basis entry, 14, 15, 16. Lists are passed one
+// by one, as `inspect` is lent them: a struct would be made for the checks alone.
 ghost use Rattle.std.specs.Prelude.{◌≡◌, ◌≤◌};
 ghost use Rattle.inspect.specs.Lent.{lent_check};
 ghost use Rattle.inspect.specs.Inspect.{filled, lists_short, inspect_check};
@@ -38,7 +39,7 @@ pub fn check_lent(
     Ok(())
 }
 
-// The checks in their order. (Of the lists one by one, as `inspect` is lent them: a struct would be made for the checks alone.)
+// The checks in their order.
 #[tactic(auto, unfolding(crate::specs::Inspect::inspect_check))]
 pub fn check(
     system: System,

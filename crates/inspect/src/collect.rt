@@ -53,7 +53,8 @@ fn collect(
     Ok(forced)
 }
 
-// Reads the touched rows against a region.
+// Reads the touched rows against a region. (That the region is fit is asked by four private functions: this one, `apply`, `conclude`, and `open_count`
+// of `probe`. C may lend an unfit region, so `Region` cannot say it, and a type of fit ones would be made for these four.)
 pub fn collect_touched(
     basis: &Basis,
     touched: Ordinals,
@@ -65,6 +66,6 @@ pub fn collect_touched(
     ensures { Gathered (consequences (map is_held (decisions region)) (map is_open (decisions region)) (atoms_of basis.now.rank (set_of touched.words)) (rows_of basis.now)) result atoms.old values.old atoms.new values.new }
 {
     let marked = touched.words;
-    let masks = Masks::of(region);
+    let masks = Masks::from(region);
     collect(basis, &marked, &masks, atoms, values)
 }

@@ -11,6 +11,7 @@ ghost use Rattle.inspect.specs.Batch.{begun, applied};
 ghost use Rattle.inspect.specs.Inspect.{filled, told_of, outcome, answer_of, ended, inspect_of};
 ghost use Rattle.inspect.specs.Steps.{Masked, Applicable, forced_in};
 
+use apply::Tally;
 pub use checks::check_lent;
 use parity::{Basis, System};
 use refusal::Refusal;
@@ -33,9 +34,7 @@ struct Forced {
 
 // What refutes at a row: no open atom and the wrong parity.
 #[derive(Clone, Copy)]
-enum Fault {
-    Wrong,
-}
+struct Wrong;
 
 // A wrong row among those touched, behind so many forced atoms.
 #[derive(Clone, Copy)]
@@ -50,14 +49,13 @@ pub struct Masks {
     pub free: [u64; 8],
 }
 
-impl Masks {
-    // The open atoms are those that are not held and not cut; atoms from n on are among them, but no row has one. (No From: of a fit region more is
-    // said, by a clause of its own.)
-    pub fn of(region: Region) -> Masks
-        ensures held { result.held ≡ region.held }
-        ensures free { result.free ≡ merged bit_xor (merged bit_xor (replicate 8 (2 ^ 64 - 1)) region.held) region.cut }
-        ensures fit { region_check region ≡ Ok tt → Masked region.atoms (decisions region) result.held result.free }
-    {
+impl From<Region> for Masks {
+    ghost from_gives = { λ region masks. (masks.held ≡ region.held)
+        × (masks.free ≡ merged bit_xor (merged bit_xor (replicate 8 (2 ^ 64 - 1)) region.held) region.cut)
+        × (region_check region ≡ Ok tt → Masked region.atoms (decisions region) masks.held masks.free) };
+
+    // The open atoms are those that are not held and not cut; atoms from n on are among them, but no row has one.
+    fn from(region: Region) -> Masks {
         let mut free = [u64::MAX; 8];
         words::xor_assign(&mut free, &region.held);
         words::xor_assign(&mut free, &region.cut);
@@ -66,16 +64,6 @@ impl Masks {
             free,
         }
     }
-}
-
-// A region with forced atoms decided, how many of them as held and as cut, and whether one was decided otherwise: a flag and no Result,
-// since "earlier ones stand" then too. (Its last three fields are those of `apply`'s `Tally`: as one field, all who read them would go through it.)
-#[derive(Clone, Copy)]
-struct Applied {
-    region: Region,
-    held: usize,
-    cut: usize,
-    against: bool,
 }
 
 // What becomes of an inspection that is not refused.
@@ -98,7 +86,7 @@ pub struct Inspected {
     pub known: Snapshot,
 }
 
-// An inspection that decides nothing: region and knowledge stand.
+// An inspection that decides nothing: region and knowledge stand. (No From: it has four values of four types, and no struct has just those.)
 fn stands(answer: Step, forced: usize, region: Region, known: Snapshot) -> Inspected
     ensures { result ≡ told_of answer 0 0 forced region known }
 {
@@ -112,21 +100,23 @@ fn stands(answer: Step, forced: usize, region: Region, known: Snapshot) -> Inspe
     }
 }
 
-// The answer of a batch, by how many atoms it decided as held and as cut and whether one was decided otherwise. (A From would be of an `Applied` that
-// has its region too.)
-fn answer(held: usize, cut: usize, against: bool) -> Step
-    ensures { result ≡ answer_of held cut against }
-{
-    if against {
-        Step::Refuted
-    } else if held == 0 && cut == 0 {
-        Step::Unchanged
-    } else {
-        Step::Changed
+// The answer of a batch.
+impl From<Tally> for Step {
+    ghost from_gives = { λ tally step. step ≡ answer_of tally.held tally.cut tally.against };
+
+    fn from(tally: Tally) -> Step {
+        if tally.against {
+            Step::Refuted
+        } else if tally.held == 0 && tally.cut == 0 {
+            Step::Unchanged
+        } else {
+            Step::Changed
+        }
     }
 }
 
-// Publishes the region as it came, and applies the forced list: the first `forced` entries of lists that are lent longer, which `apply` cuts.
+// Publishes the region as it came, and applies the forced list: the first `forced` entries of lists that are lent longer, which `apply` cuts. (What
+// it answers is built by its fields: they come from the batch, the knowledge and the count.)
 fn conclude(
     region: Region,
     known: Snapshot,
@@ -140,9 +130,9 @@ fn conclude(
     let (_, learnt) = known.publish(region);
     let applied = apply::apply(region, forced, atoms, values);
     Inspected {
-        answer: answer(applied.held, applied.cut, applied.against),
-        held: applied.held,
-        cut: applied.cut,
+        answer: Step::from(applied.tally),
+        held: applied.tally.held,
+        cut: applied.tally.cut,
         forced,
         region: applied.region,
         known: learnt,

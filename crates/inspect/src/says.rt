@@ -5,12 +5,13 @@ ghost use Rattle.std.specs.Int.Count.{ones};
 ghost use Rattle.words.specs.Set.{set_of, low};
 ghost use Rattle.inspect.specs.Steps.{reading_at};
 
-use super::{Fault, Forced, Masks};
+use super::{Forced, Masks, Wrong};
 use parity::Basis;
 use rows::{Atom, Ordinal};
 
-// The lowest atom that a row shares with a mask, if it shares any; how many it shares is known, so that the words are not read for none.
-// (`words::first` would need the words that both have in memory of their own.)
+// The lowest atom that a row shares with a mask, if it shares any; how many it shares is known, so that the words are not read for none. (At most eight
+// words, as a mask has: a slice's type has no length. `words::first` would need the words that both have in memory of their own. By place, which is the
+// answer: with `zip` a proof has to look each turn's words up in what was yielded, as that of `apply` does.)
 fn first_common(row: &[u64], mask: &[u64; 8], shared: usize) -> Option<usize>
     requires few { length row.now ≤ 8 }
     requires counted { shared ≡ ones (bit_and (set_of row.now) (set_of mask.now)) }
@@ -28,8 +29,9 @@ fn first_common(row: &[u64], mask: &[u64; 8], shared: usize) -> Option<usize>
     None
 }
 
-// What the row says that a place of the basis names.
-pub fn read(basis: &Basis, place: Ordinal, masks: &Masks) -> Result<Option<Forced>, Fault>
+// What the row says that a place of the basis names. (The row is there, and of each mask as many words are taken as the row has, so the defaults never
+// come: `unwrap` would ask for a proof of each.)
+pub fn read(basis: &Basis, place: Ordinal, masks: &Masks) -> Result<Option<Forced>, Wrong>
     requires { place.0 < basis.now.rank }
     ensures { result ≡ reading_at basis.now masks.now place.0 }
 {
@@ -49,6 +51,6 @@ pub fn read(basis: &Basis, place: Ordinal, masks: &Masks) -> Result<Option<Force
             value: constant != parity,
         })),
         None if parity == constant => Ok(None),
-        None => Err(Fault::Wrong),
+        None => Err(Wrong),
     }
 }

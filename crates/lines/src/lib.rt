@@ -1,4 +1,5 @@
 // The lines of a file's calls: each record of a decision, an inspection or a probe is a call over one region and one knowledge, and adds its line.
+// (What is read, the file or what is lent, and the text that is written are passed apart.)
 #![tactic(auto)]
 
 ghost use Rattle.std.specs.Prelude.{◌≡◌};
@@ -65,7 +66,7 @@ impl State {
         print::put_decision(text, atom, usize::from(holds), answer);
     }
 
-    // An inspection: its line, and region and knowledge as it leaves them.
+    // An inspection: its line, and region and knowledge as it leaves them. (The two lists are memory that `inspect` is lent.)
     fn inspect(&mut self, lent: Lent, text: &mut Text)
         ensures { Called (state_of self.old) (inspection lent.entry.system (filled lent.entry.rows.now lent.entry.constants.now lent.entry.basis.now lent.entry.index.now)) text.old text.new self.new }
     {

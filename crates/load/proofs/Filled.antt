@@ -17,7 +17,7 @@ use Rattle.load.specs.Parts.{row_in, parts_at, parts_from}
 use Rattle.load.specs.Steps.{Room, Loaded, RoomFor, Adds}
 use Rattle.load.specs.declared.Filling.{Filling}
 use Rattle.load.proofs.Handed.{here_row, here_table, here_none, from_more, from_end, fit_more}
-use Rattle.load.proofs.Loading.{none_loaded, Left, left_start, left_room, left_next, left_end}
+use Rattle.load.proofs.Loading.{none_loaded, Left, left_room, left_next, left_end}
 
 module _ (file : List ℕ) (n o : ℕ) where
   pub of_row : {kind : Kind} → Ok kind ≡ kind_of (kind_at file o) → kind ≡ ARow → all_rows n (parts_at file n o) ≡ row_in file n o ∷ []
@@ -51,17 +51,6 @@ pub record Going (file : List ℕ) (t₀ : Filling) (it : Records) (t : Filling)
   pub atoms : t.atoms ≡ t₀.atoms
   pub fit : RecordsFit file t₀.atoms (starts file it.next.offset)
   pub left : Left (width_of t₀.atoms) (rows_from file t₀.atoms 0) t₀.words.now t₀.constants.now t₀.next (rows_from file t₀.atoms it.next.offset) t.words.now t.constants.now t.next
-
-pub going_start : (file : List ℕ) (t : Filling) (it : Records) → RecordsFit file t.atoms (starts file 0) → it.next.file.now ≡ file → it.next.offset ≡ 0 → Going file t it t
-going_start file t it fit same zero = record {
-  same_words = refl;
-  same_constants = refl;
-  same_file = same;
-  atoms = refl;
-  fit = subst (λ (i : ℕ). RecordsFit file t.atoms (starts file i)) (sym zero) fit;
-  left = subst (λ (i : ℕ). Left (width_of t.atoms) (rows_from file t.atoms 0) t.words.now t.constants.now t.next (rows_from file t.atoms i) t.words.now t.constants.now t.next)
-      (sym zero) (left_start (width_of t.atoms) (rows_from file t.atoms 0) t.words.now t.constants.now t.next);
-}
 
 along : (P : List ℕ → ℕ → ℕ → Type 0) {f g : List ℕ} {n m o i : ℕ} → f ≡ g → n ≡ m → o ≡ i → P f n o → P g m i
 along P {f} {g} {n} {m} {o} {i} a b c p = subst (λ (l : List ℕ). P l m i) a (subst (λ (k : ℕ). P f k i) b (subst (λ (k : ℕ). P f n k) c p))

@@ -98,9 +98,6 @@ pub record Left (w : ℕ) (all : List Row) (ws₀ cs₀ : List ℕ) (at₀ : ℕ
   pub words : sets ws (at * w) (words_of w (reverse rs)) ≡ sets ws₀ (at₀ * w) (words_of w (reverse all))
   pub constants : sets cs at (constants_of (reverse rs)) ≡ sets cs₀ at₀ (constants_of (reverse all))
 
-pub left_start : (w : ℕ) (all : List Row) (ws cs : List ℕ) (at : ℕ) → Left w all ws cs at all ws cs at
-left_start w all ws cs at = record { place = refl; kept = refl; kept' = refl; words = refl; constants = refl }
-
 module _ (w : ℕ) (all : List Row) (ws₀ cs₀ : List ℕ) (at₀ : ℕ) (ws cs : List ℕ) (at : ℕ) where
   pub left_end : Left w all ws₀ cs₀ at₀ [] ws cs at → Loaded w all ws₀ cs₀ at₀ ws cs at
   unfolding words_of constants_of

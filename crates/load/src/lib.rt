@@ -35,7 +35,7 @@ impl From<Fault> for LoadError {
     }
 }
 
-// Memory that is filled with rows over so many atoms, and the number of the next one.
+// Memory that is filled with rows over so many atoms, and the number of the next one: lent, so two slices and no Vec.
 #[derive(Drop)]
 struct Filling<'a> {
     atoms: usize,
@@ -44,8 +44,9 @@ struct Filling<'a> {
     next: usize,
 }
 
-// Writes a row's words: those of the atoms that its record names. A range, since a record is asked for its atoms by number: an iterator of them
-// would be a struct, a relation and a measure for this one loop.
+// Writes a row's words: those of the atoms that its record names. A range, since a record is asked for its atoms by number, here as in `read_atoms` of
+// `format` and in the checks of `record`: an iterator of them would be a struct, a relation and a measure beside that.
+#[tactic(auto, using(crate::proofs::Inserted::inserted_next, crate::proofs::Inserted::inserted_end))]
 fn fill_row(at: Record, row: &mut [u64])
     ensures { row.new ≡ inserted_all (row_atoms at.entry.file.now at.entry.offset) (replicate (length row.old) 0) }
 {
@@ -94,7 +95,7 @@ impl Filling<'_> {
         self.next += hull.count;
     }
 
-    // Writes the rows that a record hands in.
+    // Writes the rows that a record hands in. (One without a kind, which a checked file has none of, hands in none.)
     fn put_record(&mut self, at: Record)
         requires fit { RecordFit at.file.now self.old.atoms at.offset }
         requires room { RoomFor self.old (all_rows self.old.atoms (parts_at at.file.now self.old.atoms at.offset)) }
@@ -122,7 +123,8 @@ impl Filling<'_> {
     }
 }
 
-// Checks a file and writes its rows. Where the file is unfit or the memory too short, all lent memory stands.
+// Checks a file and writes its rows. Where the file is unfit or the memory too short, all lent memory stands. (Rows and constants are passed one by
+// one, as C lends them.)
 pub fn load(file: &[u8], rows: &mut [u64], constants: &mut [u8]) -> Result<Checked, LoadError>
     ensures { outcome result rows.new constants.new ≡ load_of file.now rows.old constants.old }
 {

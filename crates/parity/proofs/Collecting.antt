@@ -59,7 +59,7 @@ pub record Collected (n : ℕ) (ws cs ps atoms values atoms' values' : List ℕ)
   pub named : atoms' ≡ unit_atoms_of (basis_of n ws cs (take j ps)) ++ drop units atoms
   pub valued : values' ≡ unit_values_of (basis_of n ws cs (take j ps)) ++ drop units values
 
-module _ (n rank : ℕ) (ws cs ps atoms values atoms' values' : List ℕ) (units j : ℕ) (basis : Named n rank ws cs ps) (h : j < rank)
+module _ {n rank : ℕ} {ws cs ps atoms values atoms' values' : List ℕ} {units j : ℕ} (basis : Named n rank ws cs ps) (h : j < rank)
     (room : rank ≤ length atoms) (room' : rank ≤ length values) (so : Collected n ws cs ps atoms values atoms' values' units j) where
   abbrev x : ℕ
   x = set_of (row (width_of n) ws (get_or ps j 0))
@@ -99,9 +99,9 @@ module _ (n rank : ℕ) (ws cs ps atoms values atoms' values' : List ℕ) (units
             ∙ ap (λ (l : List Row). map (λ (q : Row). cond q.constant 1 0) l ++ drop (cond t (units + 1) units) values) (sym next_units);
       }
 
-  pub collected_unit : (atom constant : ℕ) → ◌≡◌ {A = Option (ℕ × ℕ)} (Some (atom, constant)) (unit_of x value)
+  pub collected_unit : {atom constant : ℕ} → ◌≡◌ {A = Option (ℕ × ℕ)} (Some (atom, constant)) (unit_of x value)
       → Collected n ws cs ps atoms values (set atoms' units atom) (set values' units constant) (units + 1) (j + 1)
-  collected_unit atom constant is = go (eqb (ones x) 1) is next
+  collected_unit {atom} {constant} is = go (eqb (ones x) 1) is next
     where
       go : (t : Bool) → ◌≡◌ {A = Option (ℕ × ℕ)} (Some (atom, constant)) (cond t (Some (sets.low x, value)) None)
           → Collected n ws cs ps atoms values (cond t (set atoms' units (sets.low x)) atoms') (cond t (set values' units value) values') (cond t (units + 1) units) (j + 1)

@@ -11,6 +11,8 @@ use lib.ListN.{length, get_or, take, drop, replicate, length-take, get_or-eq_def
 use lib.Seq.{take-add, get_or-take, get_or-drop}
 use lib.Bits.{bit_or, or_shifted_r}
 use lib.Pow.{pow_pos}
+use Rattle.std.specs.List.{All}
+use Rattle.std.proofs.lemmas.List.Elements.{All-head, All-tail, All-take, All-drop, All-replicate}
 use Rattle.words.specs.Set.{packed, set_of, has}
 use Rattle.words.specs.Promises.{atoms_below}
 use Rattle.rows.specs.Row.{Row, has_atom}
@@ -72,18 +74,16 @@ column_all P none ws all w a i = go (ltb i w) refl
         let past : length (row w ws a) ≤ i = simp length-take (omega (arith, ltb-false i w e)) in
         rw (get_or-eq_default (row w ws a) 0 past) none
 
-packed_none : (k : ℕ) (ws : List ℕ) → ((i : ℕ) → get_or ws i 0 ≡ 0) → packed k ws ≡ 0
+abbrev Zero : ℕ → Type 0
+Zero w = w ≡ 0
+
+packed_none : (k : ℕ) (ws : List ℕ) → All Zero ws → packed k ws ≡ 0
 unfolding packed
 packed_none k [] h = refl
-packed_none k (w ∷ ws) h = rw (packed_none k ws (λ i. h (suc i)), h 0, mod-eq_of_lt (pow_pos k)) (omega arith)
-
-zeros : (m i : ℕ) → ◌≡◌ {A = ℕ} (get_or (replicate m 0) i 0) 0
-zeros zero i = refl
-zeros (suc m) zero = refl
-zeros (suc m) (suc i) = zeros m i
+packed_none k (w ∷ ws) h = rw (packed_none k ws (All-tail Zero w ws h), All-head Zero w ws h, mod-eq_of_lt (pow_pos k)) (omega arith)
 
 pub column_none : (m w a : ℕ) → set_of (row w (replicate m 0) a) ≡ 0
-column_none m w a = packed_none 64 (row w (replicate m 0) a) (column_all (λ (x : ℕ). x ≡ 0) refl (replicate m 0) (zeros m) w a)
+column_none m w a = packed_none 64 _ (All-take Zero w _ (All-drop Zero (a * w) _ (All-replicate Zero m 0 refl)))
 
 module _ (w : ℕ) (rs : List Row) (index : List ℕ) (fit : (i : ℕ) → get_or index i 0 < 2 ^ 64) where
   pub columns_words : (n : ℕ) → n * w ≤ length index → ((a : ℕ) → a < n → set_of (row w index a) ≡ mask_of (column_of rs a)) → take (n * w) index ≡ index_of w rs n

@@ -72,8 +72,8 @@ pub record Left (stride mark x : ℕ) (index : List ℕ) (y : ℕ) (index' : Lis
 pub left_start : (stride mark x : ℕ) (index : List ℕ) → Reaches stride x (length index) → Left stride mark x index x index
 left_start stride mark x index reaches = record { kept = refl; reaches = reaches; columns = λ b h. refl }
 
-pub left_end : (stride mark x : ℕ) (index : List ℕ) (y : ℕ) (index' : List ℕ) → y ≡ 0 → Left stride mark x index y index' → Entered stride mark x index index'
-left_end stride mark x index y index' none so = record {
+pub left_end : {stride mark x : ℕ} {index : List ℕ} {y : ℕ} {index' : List ℕ} → y ≡ 0 → Left stride mark x index y index' → Entered stride mark x index index'
+left_end {stride} {mark} {x} {index} {y} {index'} none so = record {
   columns = λ b h. ap (λ (t : Bool). mark_if t mark (set_of (row stride index' b))) (sym (ap (λ (z : ℕ). has z b) none ∙ has_none b)) ∙ so.columns b h;
 }
 
@@ -84,20 +84,20 @@ visited true false mark column h = refl
 visited false true mark column h = absurd (false≢true (h refl))
 visited false false mark column h = refl
 
-pub lowest_room : (stride mark x : ℕ) (index : List ℕ) (y : ℕ) (index' : List ℕ) → Left stride mark x index y index' → (a : ℕ) → 0 < y → low y ≡ a → a * stride + stride ≤ length index'
-lowest_room stride mark x index y index' so a some lowest = rw so.kept (so.reaches a (rw (sym lowest) (low_lowest y some).0))
+pub lowest_room : {stride mark x : ℕ} {index : List ℕ} {y : ℕ} {index' : List ℕ} {a : ℕ} → Left stride mark x index y index' → 0 < y → low y ≡ a → a * stride + stride ≤ length index'
+lowest_room {y = y} {a = a} so some lowest = rw so.kept (so.reaches a (rw (sym lowest) (low_lowest y some).0))
 
-module _ (stride bit c x : ℕ) (index : List ℕ) (y : ℕ) (index' : List ℕ) (h : c < stride) (fits : bit < 2 ^ 64)
-    (so : Left stride (bit * 2 ^ (c * 64)) x index y index') (a : ℕ) (some : 0 < y) (lowest : low y ≡ a) where
-  pub left_bit : (y' : ℕ) → y' ≡ y - 2 ^ a
+module _ {stride x y a : ℕ} {index index' : List ℕ} (bit c : ℕ) (h : c < stride) (fits : bit < 2 ^ 64)
+    (so : Left stride (bit * 2 ^ (c * 64)) x index y index') (some : 0 < y) (lowest : low y ≡ a) where
+  pub left_bit : {y' : ℕ} → y' ≡ y - 2 ^ a
       → Left stride (bit * 2 ^ (c * 64)) x index y' (set index' (a * stride + c) (bit_or (get_or index' (a * stride + c) 0) bit))
-  left_bit y' is = record {
+  left_bit {y'} is = record {
     kept = length-set index' (a * stride + c) _ ∙ so.kept;
     reaches = λ b e. so.reaches b ((and-eq-true_iff (has y b) (not (eqb b a))).0 (sym (visits b) ∙ e)).0;
     columns = λ b r.
         let mark = bit * 2 ^ (c * 64) in
         let old = set_of (row stride index' b) in
-        let room = lowest_room stride mark x index y index' so a some lowest in
+        let room = lowest_room so some lowest in
         ap₂ (λ (t : Bool) (s : ℕ). mark_if t mark s) (visits b) (column_marked stride index' a c bit h fits room b)
         ∙ visited (has y b) (eqb b a) mark old (λ e. ap (has y) (eqb-true b a e ∙ sym lowest) ∙ (low_lowest y some).0)
         ∙ so.columns b r;
@@ -118,15 +118,15 @@ joined true true mark column = or_twice column mark
 joined true false mark column = refl
 joined false q mark column = refl
 
-module _ (stride mark x : ℕ) (index : List ℕ) (y : ℕ) (index' : List ℕ) (so : Left stride mark x index y index') (y' z : ℕ) (is : y ≡ bit_or y' z) where
+module _ {stride mark x y : ℕ} {index index' : List ℕ} (so : Left stride mark x index y index') (y' z : ℕ) (is : y ≡ bit_or y' z) where
   either : (b : ℕ) → has y b ≡ (has y' b || has z b)
   either b = ap (λ (k : ℕ). has k b) is ∙ has_or y' z b
 
   pub part_reaches : Reaches stride z (length index')
   part_reaches b e = rw so.kept (so.reaches b (either b ∙ or_right (has y' b) (has z b) e))
 
-  pub left_part : (index'' : List ℕ) → length index'' ≡ length index' → Entered stride mark z index' index'' → Left stride mark x index y' index''
-  left_part index'' kept part = record {
+  pub left_part : {index'' : List ℕ} → length index'' ≡ length index' → Entered stride mark z index' index'' → Left stride mark x index y' index''
+  left_part kept part = record {
     kept = kept ∙ so.kept;
     reaches = λ b e. so.reaches b (either b ∙ ap (λ (t : Bool). t || has z b) e);
     columns = λ b r.

@@ -48,17 +48,17 @@ upto_start n stride ws ps index is fit = record {
   counted = λ cs. sym (incidences_none n);
 }
 
-module _ (n rank stride : ℕ) (ws cs₀ ps index : List ℕ) (total j : ℕ) (named : Named n rank ws cs₀ ps) (h : j < rank) (so : Upto n stride ws ps index total j) where
+module _ {n rank stride : ℕ} {ws cs₀ ps index : List ℕ} {total j : ℕ} (named : Named n rank ws cs₀ ps) (h : j < rank) (so : Upto n stride ws ps index total j) where
   pub ordinal_reaches : Reaches stride (set_of (row (width_of n) ws (get_or ps j 0))) (length index)
   ordinal_reaches a e = rw so.kept (earlier stride n a (has_below n (set_of (row (width_of n) ws (get_or ps j 0))) a (named.legible j h).below e))
 
   pub ordinal_few : ones (set_of (row (width_of n) ws (get_or ps j 0))) ≤ 512
   ordinal_few = omega (arith, ones-le n (set_of (row (width_of n) ws (get_or ps j 0))) (named.legible j h).below, (named.legible j h).atoms)
 
-  pub upto_next : (index' : List ℕ) → length index' ≡ length index → ((i : ℕ) → get_or index' i 0 < 2 ^ 64)
+  pub upto_next : {index' : List ℕ} {count : ℕ} → length index' ≡ length index → ((i : ℕ) → get_or index' i 0 < 2 ^ 64)
       → Entered stride (2 ^ j) (set_of (row (width_of n) ws (get_or ps j 0))) index index'
-      → (count : ℕ) → count ≡ ones (set_of (row (width_of n) ws (get_or ps j 0))) → Upto n stride ws ps index' (total + count) (j + 1)
-  upto_next index' kept fit entered count is =
+      → count ≡ ones (set_of (row (width_of n) ws (get_or ps j 0))) → Upto n stride ws ps index' (total + count) (j + 1)
+  upto_next kept fit entered is =
       let x = set_of (row (width_of n) ws (get_or ps j 0)) in
       let there : j < length ps = omega (arith, named.entries) in
       let long : (cs : List ℕ) (a : ℕ) → length (column_of (basis_of n ws cs (take j ps)) a) ≡ j =
@@ -84,9 +84,9 @@ module _ (n rank stride : ℕ) (ws cs₀ ps index : List ℕ) (total j : ℕ) (n
             ∙ ap (λ (l : List Row). incidences_of l n) (sym (basis_next n ws cs ps j there));
       }
 
-pub upto_words : (n stride : ℕ) (ws ps index : List ℕ) (total j : ℕ) → Upto n stride ws ps index total j
+pub upto_words : {n stride : ℕ} {ws ps index : List ℕ} {total j : ℕ} → Upto n stride ws ps index total j
     → (cs : List ℕ) → index ≡ index_of stride (basis_of n ws cs (take j ps)) n
-upto_words n stride ws ps index total j so cs =
+upto_words {n} {stride} {ws} {ps} {index} {total} {j} so cs =
     let whole : length index ≤ n * stride = omega (arith, so.kept) in
     let room : n * stride ≤ length index = omega (arith, so.kept) in
     sym (take_all (n * stride) index whole) ∙ columns_words stride (basis_of n ws cs (take j ps)) index so.fit n room (so.columns cs)

@@ -39,7 +39,7 @@ unfolding ones
 single_some zero e = omega arith
 single_some (suc x) e = omega arith
 
-module _ (ws : List ℕ) (few : length ws ≤ 8) (n : ℕ) (count : count_of ws ≡ Ok n) where
+module _ {n : ℕ} (ws : List ℕ) (few : length ws ≤ 8) (count : count_of ws ≡ Ok n) where
   counted : n ≡ ones (set_of ws)
   counted = let same : Ok n ≡ Ok (ones (set_of ws)) = sym count ∙ counted_few ws few in cc
 

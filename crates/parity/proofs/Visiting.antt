@@ -1,9 +1,6 @@
 -- The atoms of a word, and the words of a row, visited one after another: the turns of `enter_word` and `enter_row`.
 use Prim.Native.Nat.{ℕ, ◌+◌, ◌-◌, ◌*◌, ◌^◌, ◌≤◌, ◌<◌}
-use mathlib.Core.Path.{◌≡◌, refl, sym, ap, ap₂, ◌∙◌}
-use mathlib.Core.Bool.{Bool, true, false, cond}
-use borrow.Author.Tests.{eqb-true, eqb-false}
-use lib.Dec.{eqb}
+use mathlib.Core.Path.{◌≡◌, sym, ap, ap₂, ◌∙◌}
 use mathlib.Core.List.{List}
 use native.Mathlib.Nat.{add_comm, mul_comm, mul_assoc, mul-sub, mul-one, add-mul, suc-mul, zero-mul, mod-eq_of_lt, mul-le-mul_right, le-mul_of_pos_right}
 use native.Mathlib.Numerals.{add-one}
@@ -12,12 +9,13 @@ use lib.ListN.{length, get_or, drop, set}
 use lib.Bits.{bit_or, or_shifted}
 use lib.Count.{ones, ones_cat, ones-le}
 use lib.Pow.{pow_pos, pow-add, shl_lt}
-use Rattle.std.specs.Prelude.{Option, Some, None}
+use Rattle.std.specs.Prelude.{Some}
 use Rattle.words.specs.Set.{set_of, low}
 use Rattle.words.proofs.Packed.{left_cons, left_none}
 use Rattle.words.specs.Calls.{Visits}
 use Rattle.words.specs.declared.SetBits.{SetBits}
 use Rattle.words.proofs.Lowest.{low_form, low_is}
+use Rattle.words.proofs.Meaning.{visit_some}
 use Rattle.parity.specs.Entered.{Reaches, Entered}
 use Rattle.parity.proofs.Marking.{Left, left_start, left_end, lowest_room, left_bit, part_reaches, left_part}
 
@@ -45,38 +43,13 @@ pub record Within (stride atom : ℕ) (index : List ℕ) : Type 0 where
   pub room : atom * stride + stride ≤ length index
   pub small : atom ≤ atom * stride
 
--- what a visit of the bits left gives: the lowest, and the others; or there are none
-step_from : SetBits → Bool → Option ℕ × SetBits
-step_from bits t = cond t (None, bits) (Some (low bits.remaining), record { remaining = bits.remaining - 2 ^ low bits.remaining })
-
-visit_some : (bits bits' : SetBits) (atom : ℕ) → Visits bits (Some atom) bits'
-    → (0 < bits.remaining) × (atom ≡ low bits.remaining) × (bits'.remaining ≡ bits.remaining - 2 ^ low bits.remaining)
-unfolding step_from
-visit_some bits bits' atom is = go (eqb bits.remaining 0) refl is
-  where
-    go : (t : Bool) → eqb bits.remaining 0 ≡ t → (Some atom, bits') ≡ step_from bits t
-        → (0 < bits.remaining) × (atom ≡ low bits.remaining) × (bits'.remaining ≡ bits.remaining - 2 ^ low bits.remaining)
-    go true e is = let none : Some atom ≡ None = ap (λ (q : Option ℕ × SetBits). q.0) is in let z : ◌≡◌ {A = ℕ} 0 1 = cc in absurd (omega arith)
-    go false e is =
-        let ne = eqb-false bits.remaining 0 e in
-        let first : Some atom ≡ Some (low bits.remaining) = ap (λ (q : Option ℕ × SetBits). q.0) is in
-        (omega arith, cc, ap (λ (q : Option ℕ × SetBits). q.1.remaining) is)
-
-pub visit_none : (bits bits' : SetBits) → Visits bits None bits' → bits.remaining ≡ 0
-unfolding step_from
-visit_none bits bits' is = go (eqb bits.remaining 0) refl is
-  where
-    go : (t : Bool) → eqb bits.remaining 0 ≡ t → (None, bits') ≡ step_from bits t → bits.remaining ≡ 0
-    go true e is = eqb-true bits.remaining 0 e
-    go false e is = let some : None ≡ Some (low bits.remaining) = ap (λ (q : Option ℕ × SetBits). q.0) is in let z : ◌≡◌ {A = ℕ} 0 1 = cc in absurd (omega arith)
-
-module _ (stride bit c x : ℕ) (index : List ℕ) (s : ℕ) (bits bits' : SetBits) (atom : ℕ) (index' : List ℕ) (wide : c < stride)
+module _ {stride x : ℕ} {index index' : List ℕ} (bit c s : ℕ) (bits bits' : SetBits) (atom : ℕ) (wide : c < stride)
     (so : Left stride (bit * 2 ^ (c * 64)) x index (bits.remaining * 2 ^ s) index') (visit : Visits bits (Some atom) bits') where
   pub bit_within : Within stride (s + atom) index'
   bit_within =
       let v = visit_some bits bits' atom visit in
       rw v.1 record {
-        room = lowest_room stride (bit * 2 ^ (c * 64)) x index (bits.remaining * 2 ^ s) index' so (s + low bits.remaining) (positive bits.remaining s v.0) (word_low bits.remaining s v.0);
+        room = lowest_room so (positive bits.remaining s v.0) (word_low bits.remaining s v.0);
         small = le-mul_of_pos_right (s + low bits.remaining) (omega arith);
       }
 
@@ -84,8 +57,7 @@ module _ (stride bit c x : ℕ) (index : List ℕ) (s : ℕ) (bits bits' : SetBi
       → Left stride (bit * 2 ^ (c * 64)) x index (bits'.remaining * 2 ^ s) (set index' ((s + atom) * stride + c) (bit_or (get_or index' ((s + atom) * stride + c) 0) bit))
   bit_next fits =
       let v = visit_some bits bits' atom visit in
-      rw v.1 (left_bit stride bit c x index (bits.remaining * 2 ^ s) index' wide fits so (s + low bits.remaining) (positive bits.remaining s v.0)
-      (word_low bits.remaining s v.0) (bits'.remaining * 2 ^ s) (ap (λ (n : ℕ). n * 2 ^ s) v.2 ∙ word_next bits.remaining s v.0))
+      rw v.1 (left_bit bit c wide fits so (positive bits.remaining s v.0) (word_low bits.remaining s v.0) (ap (λ (n : ℕ). n * 2 ^ s) v.2 ∙ word_next bits.remaining s v.0))
 
 -- ---- the words of a row
 
@@ -117,33 +89,32 @@ pub record Entering (stride mark : ℕ) (ws index index' : List ℕ) (count i : 
   pub counted : count + ones (set_of (drop i ws)) ≡ ones (set_of ws)
   pub left : Left stride mark (set_of ws) index (words_from ws i) index'
 
-pub entering_start : (stride mark : ℕ) (ws index : List ℕ) → Reaches stride (set_of ws) (length index) → Entering stride mark ws index index 0 0
+pub entering_start : {stride mark : ℕ} {ws index : List ℕ} → Reaches stride (set_of ws) (length index) → Entering stride mark ws index index 0 0
 unfolding words_from
-entering_start stride mark ws index reaches = record {
+entering_start {stride} {mark} {ws} {index} reaches = record {
   few = omega arith;
   counted = omega arith;
   left = rw mul-one (left_start stride mark (set_of ws) index reaches);
 }
 
-module _ (stride mark : ℕ) (ws index index' : List ℕ) (count i : ℕ) (h : i < length ws) (fits : get_or ws i 0 < 2 ^ 64)
+module _ {stride mark : ℕ} {ws index index' : List ℕ} {count i : ℕ} (h : i < length ws) (fits : get_or ws i 0 < 2 ^ 64)
     (so : Entering stride mark ws index index' count i) where
   pub word_reaches : Reaches stride (get_or ws i 0 * 2 ^ (i * 64)) (length index')
-  word_reaches = part_reaches stride mark (set_of ws) index (words_from ws i) index' so.left (words_from ws (i + 1)) (get_or ws i 0 * 2 ^ (i * 64)) (words_next ws i h fits)
+  word_reaches = part_reaches so.left (words_from ws (i + 1)) (get_or ws i 0 * 2 ^ (i * 64)) (words_next ws i h fits)
 
-  pub entering_next : (index'' : List ℕ) → length index'' ≡ length index' → Entered stride mark (get_or ws i 0 * 2 ^ (i * 64)) index' index''
+  pub entering_next : {index'' : List ℕ} → length index'' ≡ length index' → Entered stride mark (get_or ws i 0 * 2 ^ (i * 64)) index' index''
       → Entering stride mark ws index index'' (count + ones (get_or ws i 0)) (i + 1)
-  entering_next index'' kept part = record {
+  entering_next kept part = record {
     few = omega (arith, so.few, ones-le 64 (get_or ws i 0) fits);
     counted = omega (arith, so.counted, ones_next ws i h fits);
-    left = left_part stride mark (set_of ws) index (words_from ws i) index' so.left (words_from ws (i + 1)) (get_or ws i 0 * 2 ^ (i * 64)) (words_next ws i h fits) index'' kept part;
+    left = left_part so.left (words_from ws (i + 1)) (get_or ws i 0 * 2 ^ (i * 64)) (words_next ws i h fits) kept part;
   }
 
-module _ (stride mark : ℕ) (ws index index' : List ℕ) (count i : ℕ) (done : length ws ≤ i) (so : Entering stride mark ws index index' count i) where
+module _ {stride mark : ℕ} {ws index index' : List ℕ} {count i : ℕ} (done : length ws ≤ i) (so : Entering stride mark ws index index' count i) where
   pub entering_count : count ≡ ones (set_of ws)
   unfolding ones
   entering_count = let none : ones (set_of (drop i ws)) ≡ 0 = ap ones (left_none 64 ws i done) in omega (arith, so.counted)
 
   pub entering_end : Entered stride mark (set_of ws) index index'
   unfolding words_from
-  entering_end =
-      left_end stride mark (set_of ws) index (words_from ws i) index' (ap (λ (n : ℕ). n * 2 ^ (i * 64)) (left_none 64 ws i done) ∙ zero-mul (2 ^ (i * 64))) so.left
+  entering_end = left_end (ap (λ (n : ℕ). n * 2 ^ (i * 64)) (left_none 64 ws i done) ∙ zero-mul (2 ^ (i * 64))) so.left

@@ -10,7 +10,7 @@ use crate::basis::Basis;
 use words::Place;
 
 // Sets a bit in the columns of the atoms of one word, whose first atom is `base`. (The index and its stride are passed apart: a struct of them would be
-// made for the one loop below.)
+// made for the loop of `enter_rows` alone.)
 fn enter_word(index: &mut [u64], stride: usize, place: Place, base: usize, word: u64)
     requires wide { place.word < stride }
     requires reaches { Reaches stride (word * 2 ^ base) (length index.old) }
@@ -21,7 +21,7 @@ fn enter_word(index: &mut [u64], stride: usize, place: Place, base: usize, word:
     }
 }
 
-// Sets a bit in the columns of the atoms of one row, and says how many atoms it has.
+// Sets a bit in the columns of the atoms of one row of at most eight words, and says how many atoms it has, counted in the same pass.
 fn enter_row(index: &mut [u64], stride: usize, place: Place, words: &[u64]) -> usize
     requires wide { place.word < stride }
     requires few { length words.now ≤ 8 }

@@ -42,7 +42,7 @@ fn lists_short(n: usize, m: usize, basis: usize, atoms: usize, values: usize, in
     basis < least || atoms < least || values < least || index < n * index::column_width(least)
 }
 
-// Whether what is lent is fit.
+// Whether what is lent is fit, all passed one by one, as `prepare` is lent it.
 #[tactic(auto, unfolding(crate::specs::Prepare::prepare_check, fit::specs::Rows::rows_check))]
 fn check(
     n: usize,

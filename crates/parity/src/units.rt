@@ -24,8 +24,8 @@ fn unit(row: &BasisRow) -> Option<(usize, u8)>
     Some((atom, row.constant))
 }
 
-// Writes the units' atoms and values, two lists as C lends them, and says how many there are. (The next place is counted: a place of one list
-// is the place of the other.)
+// Writes the units' atoms and values, two lists as C lends them, and says how many there are. (The next place is counted: a place of one list is the
+// place of the other. Room is asked, since the caller lends it.)
 pub fn collect_units(basis: &Basis, atoms: &mut [usize], values: &mut [u8]) -> usize
     requires atoms { basis.now.rank ≤ length atoms.old }
     requires values { basis.now.rank ≤ length values.old }

@@ -6,6 +6,7 @@ use Rattle.rows.specs.Row.{meets_all}
 use Rattle.rows.specs.Decisions.{agrees}
 use Rattle.rows.proofs.Counting.{count_ext, count_none}
 use Rattle.rows.proofs.Triangle.{triangular_leaves}
+use Rattle.inspect.proofs.Fits.{where_never}
 use Rattle.probe.specs.Elimination.{eliminated}
 use Rattle.probe.specs.Promises.{KeptFew, ProbeCounts}
 use Rattle.probe.proofs.Meanings.{sound_meets, unsound_none}
@@ -19,10 +20,6 @@ kept_few p rs = let kept = (eliminated p rs).rows in (triangular_leaves p (pivot
 pub where_true : (b c d : Bool) → (b ≡ true → c ≡ d) → (b && c) ≡ (b && d)
 where_true true c d h = h refl
 where_true false c d h = refl
-
-where_never : (b c : Bool) → (b ≡ true → c ≡ false) → (b && c) ≡ false
-where_never true c h = h refl
-where_never false c h = refl
 
 pub probe_counts : ProbeCounts
 probe_counts p rs =

@@ -29,7 +29,7 @@ use Rattle.inspect.specs.Steps.{Masked}
 use Rattle.probe.specs.Steps.{Room, Opened, told}
 use Rattle.probe.proofs.Agreed.{agreed}
 
-module _ (n rank : ℕ) (held free ws cs ps left cs' pivots : List ℕ) (atoms : n ≤ 512) (named : Named n rank ws cs ps) (room : Room n rank left cs')
+module _ {n rank : ℕ} {held free ws cs ps left cs' : List ℕ} (pivots : List ℕ) (atoms : n ≤ 512) (named : Named n rank ws cs ps) (room : Room n rank left cs')
     (entries : min rank n ≤ length pivots) (opened : Opened n held free ws cs ps left cs' rank) where
   abbrev w : ℕ
   w = width_of n

@@ -35,6 +35,10 @@ use Rattle.probe.specs.Steps.{Room, Opened}
 
 -- after i turns: the first i words are written, and the sum's count and that of the held atoms from word i on have the parity of the whole
 pub record Opening (words held free left₀ left : List ℕ) (sum i : ℕ) : Type 0 where
+  pub short : length words ≤ 8
+  pub same : length left₀ ≡ length words
+  pub held_wide : length held ≡ 8
+  pub free_wide : length free ≡ 8
   pub within : i ≤ length words
   pub long : length left ≡ length words
   pub is : left ≡ take i (common words free) ++ drop i left₀
@@ -47,38 +51,37 @@ over i (x ∷ z) [] h e = let z : ⊥ = omega (arith, e) in absurd z
 over zero (x ∷ z) (y ∷ l) h e = refl
 over (suc i) (x ∷ z) (y ∷ l) h e = ap (λ (m : List ℕ). x ∷ m) (over i z l (omega arith) (omega (arith, e)))
 
-module _ (words held free left₀ : List ℕ) (short : length words ≤ 8) (same : length left₀ ≡ length words) (held_wide : length held ≡ 8) (free_wide : length free ≡ 8) where
+module _ {words held free left₀ left : List ℕ} {sum i : ℕ} (o : Opening words held free left₀ left sum i) where
   in_free : length words ≤ length free
-  in_free = omega arith
+  in_free = omega (arith, o.short, o.free_wide)
 
   in_held : length words ≤ length held
-  in_held = omega arith
+  in_held = omega (arith, o.short, o.held_wide)
 
-  pub opening_start : Opening words held free left₀ left₀ 0 0
-  unfolding ones
-  opening_start = record { within = omega arith; long = same; is = refl; parity = omega arith }
+  pub opening_next : i < length words → get_or words i 0 < 2 ^ 64
+      → Opening words held free left₀ (set left i (bit_and (get_or words i 0) (get_or free i 0))) (bit_xor sum (bit_and (get_or words i 0) (get_or held i 0))) (i + 1)
+  opening_next h fits = record {
+    short = o.short;
+    same = o.same;
+    held_wide = o.held_wide;
+    free_wide = o.free_wide;
+    within = omega arith;
+    long = length-set left i _ ∙ o.long;
+    is =
+        ap₂ (λ (l : List ℕ) (v : ℕ). set l i v) o.is (sym (common_at words free i in_free h))
+        ∙ over i (common words free) left₀ (omega (arith, common_length words free in_free)) (o.same ∙ sym (common_length words free in_free))
+        ∙ ap (λ (k : ℕ). take k (common words free) ++ drop k left₀) (sym (add-one i));
+    parity = omega (arith, o.parity, ones_xor sum (bit_and (get_or words i 0) (get_or held i 0)), shared_cons 64 words held i h (omega (arith, in_held)) fits);
+  }
 
-  module _ (left : List ℕ) (sum i : ℕ) (o : Opening words held free left₀ left sum i) where
-    pub opening_next : i < length words → get_or words i 0 < 2 ^ 64
-        → Opening words held free left₀ (set left i (bit_and (get_or words i 0) (get_or free i 0))) (bit_xor sum (bit_and (get_or words i 0) (get_or held i 0))) (i + 1)
-    opening_next h fits = record {
-      within = omega arith;
-      long = length-set left i _ ∙ o.long;
-      is =
-          ap₂ (λ (l : List ℕ) (v : ℕ). set l i v) o.is (sym (common_at words free i in_free h))
-          ∙ over i (common words free) left₀ (omega (arith, common_length words free in_free)) (same ∙ sym (common_length words free in_free))
-          ∙ ap (λ (k : ℕ). take k (common words free) ++ drop k left₀) (sym (add-one i));
-      parity = omega (arith, o.parity, ones_xor sum (bit_and (get_or words i 0) (get_or held i 0)), shared_cons 64 words held i h (omega (arith, in_held)) fits);
-    }
-
-    pub opening_end : length words ≤ i → (left ≡ common words free) × (ones sum % 2 ≡ ones (bit_and (set_of words) (set_of held)) % 2)
-    opening_end h =
-        let all : i ≡ length left₀ = omega (arith, o.within, same) in (
-          o.is
-              ∙ ap₂ ◌++◌ (take_all i (common words free) (omega (arith, common_length words free in_free))) (ap (λ (k : ℕ). drop k left₀) all ∙ drop-length left₀)
-              ∙ append-nil (common words free),
-          omega (arith, o.parity, shared_none 64 words held i h),
-        )
+  pub opening_end : length words ≤ i → (left ≡ common words free) × (ones sum % 2 ≡ ones (bit_and (set_of words) (set_of held)) % 2)
+  opening_end h =
+      let all : i ≡ length left₀ = omega (arith, o.within, o.same) in (
+        o.is
+            ∙ ap₂ ◌++◌ (take_all i (common words free) (omega (arith, common_length words free in_free))) (ap (λ (k : ℕ). drop k left₀) all ∙ drop-length left₀)
+            ∙ append-nil (common words free),
+        omega (arith, o.parity, shared_none 64 words held i h),
+      )
 
 -- a part of the words written as a row
 pub part_put : (w t : ℕ) (left r : List ℕ) → put_mid (t * w) (t * w + w - t * w) left r ≡ put w t left r
@@ -95,8 +98,8 @@ open_of w free ws s = zip_with bit_and (row w ws s) free
 abbrev flipped_of : ℕ → (held ws cs : List ℕ) → ℕ → ℕ
 flipped_of w held ws cs s = bit_xor (get_or cs s 0) (ones (bit_and (set_of (row w ws s)) (set_of held)) % 2)
 
-pub room_kept : (n rank : ℕ) (left cs left' cs' : List ℕ) → Room n rank left cs → length left' ≡ length left → length cs' ≡ length cs → Room n rank left' cs'
-room_kept n rank left cs left' cs' room words constants = record { words = omega (arith, room.words); constants = omega (arith, room.constants) }
+pub room_kept : {n rank : ℕ} {left cs left' cs' : List ℕ} → Room n rank left cs → length left' ≡ length left → length cs' ≡ length cs → Room n rank left' cs'
+room_kept room words constants = record { words = omega (arith, room.words); constants = omega (arith, room.constants) }
 
 module _ (n rank : ℕ) (held free ws cs ps left cs' : List ℕ) (j : ℕ) (named : Named n rank ws cs ps) (below : j < rank) (eight : length free ≡ 8) (memory : Room n rank left cs') where
   fit : Legible n ws cs (get_or ps j 0)

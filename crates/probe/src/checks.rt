@@ -1,4 +1,5 @@
-// Whether what `probe` is asked is fit: document 01's numbers 10, 13 for the rank, 9, 11, 12, 13 for a basis entry, 15.
+// Whether what `probe` is asked is fit: document 01's numbers 10, 13 for the rank, 9, 11, 12, 13 for a basis entry, 15. What is lent is passed one by
+// one, as `probe` is lent it.
 ghost use Rattle.std.specs.Prelude.{◌≡◌};
 ghost use Rattle.probe.specs.Probe.{probe_check};
 
@@ -7,7 +8,7 @@ use parity::System;
 use refusal::Refusal;
 use region::Region;
 
-// The checks in their order.
+// The checks in their order. (The first is `Snapshot::overfull` of `snapshot` without its knowledge, which a probe has none of.)
 #[tactic(auto, unfolding(crate::specs::Probe::probe_check))]
 pub fn check(
     system: System,

@@ -12,15 +12,16 @@ ghost use Rattle.probe.specs.Steps.{Room, Opened, ToldOf};
 use inspect::Masks;
 use parity::{Basis, BasisRow};
 
-// How many rows are kept, and whether none was left empty with constant 1. The number counts on no too, so it stands beside the flag.
+// How many rows are kept, and whether none was left empty with constant 1. The number counts on no too, so it stands beside the flag. (Not `echelon`'s
+// own: its additions count for nothing here, and its flag says the contrary.)
 #[derive(Clone, Copy)]
 pub struct Eliminated {
     pub kept: usize,
     pub sound: bool,
 }
 
-// Writes the open atoms of a row, and gives back the parity of its held ones. (By place: after `iter_mut` with `zip` a proof knows nothing of
-// what was written.)
+// Writes the open atoms of a row, and gives back the parity of its held ones. (By place: tried, after `iter_mut` with `zip` a proof knows the length of
+// what was written, and not the entries.)
 fn split(masks: &Masks, row: &BasisRow, left: &mut [u64]) -> u8
     requires { length left.old ≡ length row.now.words.now }
     ensures left { left.new ≡ zip_with bit_and row.now.words.now masks.now.free }
@@ -35,7 +36,8 @@ fn split(masks: &Masks, row: &BasisRow, left: &mut [u64]) -> u8
     (sum.count_ones() % 2) as u8
 }
 
-// "Basis rows in order, decided atoms taken out, each held one flipping the constant", written into the memory.
+// "Basis rows in order, decided atoms taken out, each held one flipping the constant", written into the memory. (Basis and masks are no one struct: the
+// one is of what is lent, the other of a region.)
 fn substitute_all(basis: &Basis, masks: &Masks, left: &mut [u64], constants: &mut [u8])
     requires { Room basis.now.atoms basis.now.rank left.old constants.old }
     ensures { Opened basis.now.atoms masks.now.held masks.now.free basis.now.rows.now basis.now.constants.now basis.now.entries.now left.new constants.new basis.now.rank }
@@ -68,7 +70,7 @@ fn eliminate_with(
     }
 }
 
-// The same in memory of its own, for so many words and rows.
+// The same in memory of its own, for so many words and rows: three arrays, which `echelon` is lent apart.
 fn eliminate_in<const WORDS: usize, const ROWS: usize>(basis: &Basis, masks: &Masks) -> Eliminated
     requires words { basis.now.rank * width_of basis.now.atoms ≤ WORDS }
     requires rows { basis.now.rank ≤ ROWS }

@@ -46,7 +46,7 @@ fn open_count(region: Region) -> usize
     region.atoms - held - cut
 }
 
-// Whether the open atoms can still come out so that every basis row of a prepared system is met.
+// Whether the open atoms can still come out so that every basis row of a prepared system is met. Lists are lent one by one, as C lends them.
 #[tactic(auto, unfolding(crate::specs::Probe::probe_of))]
 pub fn probe(
     system: System,
@@ -73,7 +73,7 @@ pub fn probe(
         constants,
         entries: basis,
     };
-    let left = eliminate::eliminate(&lent, &Masks::of(region));
+    let left = eliminate::eliminate(&lent, &Masks::from(region));
     Ok(Probed {
         yes: left.sound,
         undecided,

@@ -77,6 +77,7 @@ fn check_table_size(at: Record) -> Result<(), Fault>
     FaultKind::Size.unless(size == 1 + k * 2 + hull::table_words(k) * 8, at.offset)
 }
 
+// (The kind is passed with the record, as in fields.rt.)
 #[tactic(auto, unfolding(crate::specs::Form::size_check))]
 pub fn check_size(at: Record, kind: Kind) -> Result<(), Fault>
     ensures { result ≡ size_check at.entry.file.now kind at.entry.offset }

@@ -28,6 +28,7 @@ pub struct Fault {
 }
 
 impl FaultKind {
+    // The number that document 01 gives it.
     pub fn number(self) -> usize
         ensures { result ≡ fault_number self }
     {

@@ -9,7 +9,7 @@ use fit::LIMIT;
 use format::{Kind, Record};
 use record::{Fault, FaultKind};
 
-// How many rows a record brings; a table's size is known to be within the limit.
+// How many rows a record brings; a table's size is known to be within the limit. (The kind is passed with the record, as in `record`.)
 #[tactic(auto, unfolding(crate::specs::Rows::exact_at, crate::specs::Rows::rows_at))]
 pub fn rows_in(at: Record, kind: Kind) -> Result<usize, Fault>
     requires named { kind_at at.file.now at.offset ≡ kind_number kind }

@@ -30,7 +30,7 @@ pub enum Refusal {
 }
 
 impl Refusal {
-    // The number that document 01 gives it.
+    // The number that document 01 gives it. (No From: that it is this number, the name says.)
     pub fn number(self) -> usize
         ensures { result ≡ number_of self }
     {

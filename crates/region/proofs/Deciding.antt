@@ -1,4 +1,4 @@
--- The checks of a region and of a decision one after the other; a decision, by the value v that the atom is given: the answer by which of the two
+-- The checks of a region one after the other; a decision, by the value v that the atom is given: the answer by which of the two
 -- masks has it. And the words of a region with nothing decided.
 use Prim.Native.Nat.{ℕ, zero, suc, ◌/◌, ◌%◌, ◌^◌, ◌<◌}
 use mathlib.Core.Path.{◌≡◌, refl, sym, ap, ap₂, ◌∙◌}
@@ -11,7 +11,7 @@ use borrow.Author.Tests.{eqb-true, eqb-false, eq-eqb}
 use lib.ListN.{length, get_or, set, replicate, length-set, length-replicate}
 use lib.Seq.{ext_get_or, get_or-set_same, get_or-set_other}
 use lib.Bits.{bit_or, or_lt}
-use lib.Dec.{eqb, leb, ltb}
+use lib.Dec.{eqb, ltb}
 use lib.Pow.{pow-lt}
 use Rattle.std.specs.Prelude.{Result, Ok, Err, is_some as is_there}
 use Rattle.words.specs.Set.{set_of, has}
@@ -21,11 +21,11 @@ use Rattle.rows.specs.Flat.{mask_of, unpack}
 use Rattle.rows.specs.declared.Atom.{Atom}
 use Rattle.refusal.specs.Refusal.{answered, left}
 use Rattle.refusal.specs.declared.Refusal.{Refusal}
-use Rattle.refusal.specs.declared.Refusal.TheVariants.{Overfull, Stray, Clash, Atom as NoAtom}
+use Rattle.refusal.specs.declared.Refusal.TheVariants.{Overfull, Stray, Clash}
 use Rattle.std.proofs.lemmas.Bool.{or_right}
 use Rattle.region.specs.Masks.{decision, decisions, is_held, is_cut, region_of}
 use Rattle.region.specs.Visit.{next_of}
-use Rattle.region.specs.Calls.{strayed, clashes, region_check, decide_check, decided, decide_of}
+use Rattle.region.specs.Calls.{clashes, region_check, decide_check, decided, decide_of}
 use Rattle.region.specs.declared.Region.{Region}
 use Rattle.region.specs.declared.Answer.{Answer}
 use Rattle.region.specs.declared.Answer.TheVariants.{Taken, Same, Against}
@@ -113,19 +113,6 @@ check_is r =
     each : (b c : Bool) (k : Result Unit Refusal) → cond (b || c) (Err Stray) k ≡ cond b (Err Stray) (cond c (Err Stray) k)
     each true c k = refl
     each false c k = refl
-
--- those of a decision: the region's, and then that of the atom
-pub decide_is : (r : Region) (a : Atom) → decide_check r a ≡ left (region_check r) (cond (leb r.atoms a.0) (Err NoAtom) (Ok tt)) (region_check r)
-unfolding decide_check region_check
-decide_is r a = each (ltb 512 r.atoms) (strayed r) (clashes r) (cond (leb r.atoms a.0) (Err NoAtom) (Ok tt))
-  where
-    each : (x y z : Bool) (k : Result Unit Refusal)
-        → let own = cond x (Err Overfull) (cond y (Err Stray) (cond z (Err Clash) (Ok tt))) in
-        cond x (Err Overfull) (cond y (Err Stray) (cond z (Err Clash) k)) ≡ left own k own
-    each true y z k = refl
-    each false true z k = refl
-    each false false true k = refl
-    each false false false k = refl
 
 -- an answer that is no refusal, and the region with it
 abbrev pub said : Region → Answer → Result Answer Refusal × Region

@@ -2,7 +2,7 @@
 use Prim.Native.Nat.{ℕ, zero, suc, ◌^◌, ◌≤◌, ◌<◌}
 use mathlib.Core.Path.{◌≡◌, refl, sym, ap, ap₂, ◌∙◌}
 use mathlib.Core.List.{List, [], ◌∷◌, map, zip_with}
-use mathlib.Core.Bool.{Bool, true, false, ◌&&◌}
+use mathlib.Core.Bool.{Bool, true, false, cond, ◌&&◌}
 use mathlib.Core.Option.{Option, none, some}
 use native.Mathlib.Nat.{lt_of_lt_of_le}
 use native.Mathlib.Omega.{arith}
@@ -19,8 +19,10 @@ use Rattle.rows.specs.Flat.{atoms_of, mask_of, unpack}
 use Rattle.rows.specs.declared.Atom.{Atom}
 use Rattle.rows.proofs.Digits.{atoms_length, atoms_has, atoms_mask, mask_lt, packed_unpack, atoms_fix_words}
 use Rattle.rows.proofs.Rowwise.{zip_length, mask_has}
-use Rattle.std.specs.Prelude.{Ok}
+use Rattle.std.specs.Prelude.{Result, Ok, Err}
 use Rattle.refusal.specs.Refusal.{answered, left}
+use Rattle.refusal.specs.declared.Refusal.{Refusal}
+use Rattle.refusal.specs.declared.Refusal.TheVariants.{Overfull, Stray, Clash, Atom as NoAtom}
 use Rattle.std.proofs.lemmas.Bool.{or_parts}
 use Rattle.fit.proofs.Fitting.{passed}
 use Rattle.region.specs.Masks.{decision, decisions_of, decisions, is_held, is_cut, region_of}
@@ -112,24 +114,28 @@ fit_region r f =
 pub map_cut : (r : Region) → Fitting r → map is_cut (decisions r) ≡ atoms_of r.atoms (set_of r.cut)
 map_cut r f = map_atoms r is_cut (set_of r.cut) (λ a h. cut_of (has (set_of r.held) a) (has (set_of r.cut) a) (f.apart a))
 
--- those of a decision
+-- those of a decision: the region's, and then that of the atom
+pub decide_is : (r : Region) (a : Atom) → decide_check r a ≡ left (region_check r) (cond (leb r.atoms a.0) (Err NoAtom) (Ok tt)) (region_check r)
+unfolding decide_check region_check
+decide_is r a = each (ltb 512 r.atoms) (strayed r) (clashes r) (cond (leb r.atoms a.0) (Err NoAtom) (Ok tt))
+  where
+    each : (x y z : Bool) (k : Result Unit Refusal)
+        → let own = cond x (Err Overfull) (cond y (Err Stray) (cond z (Err Clash) (Ok tt))) in
+        cond x (Err Overfull) (cond y (Err Stray) (cond z (Err Clash) k)) ≡ left own k own
+    each true y z k = refl
+    each false true z k = refl
+    each false false true k = refl
+    each false false false k = refl
+
 pub decide_fitting : (r : Region) (a : Atom) → decide_check r a ≡ Ok tt → Fitting r × (a.0 < r.atoms)
-unfolding region_check decide_check
-decide_fitting r a e =
-    let atoms = passed (ltb 512 r.atoms) _ _ e in
-    let stray = passed (strayed r) _ _ atoms.1 in
-    let clash = passed (clashes r) _ _ stray.1 in
-    let last = passed (leb r.atoms a.0) _ _ clash.1 in
-    let own : region_check r ≡ Ok tt = simp (atoms.0, stray.0, clash.0) in
-    (fitting r own, leb-false r.atoms a.0 last.0)
+decide_fitting r a e = go (region_check r) refl (sym (decide_is r a) ∙ e)
+  where
+    go : (own : Result Unit Refusal) → region_check r ≡ own → left own (cond (leb r.atoms a.0) (Err NoAtom) (Ok tt)) own ≡ Ok tt → Fitting r × (a.0 < r.atoms)
+    go (Ok done) own e = (fitting r own, leb-false r.atoms a.0 (passed (leb r.atoms a.0) _ _ e).0)
+    go (Err refusal) own e = cc
 
 decide_unrefused : (r : Region) (a : Atom) → region_check r ≡ Ok tt → a.0 < r.atoms → decide_check r a ≡ Ok tt
-unfolding region_check decide_check
-decide_unrefused r a fit lt =
-    let atoms = passed (ltb 512 r.atoms) _ _ fit in
-    let stray = passed (strayed r) _ _ atoms.1 in
-    let clash = passed (clashes r) _ _ stray.1 in
-    simp (atoms.0, stray.0, clash.0, lt-leb r.atoms a.0 lt)
+decide_unrefused r a fit lt = simp (decide_is r a, fit, lt-leb r.atoms a.0 lt)
 
 -- ---- from decisions to words and back
 

@@ -3,7 +3,7 @@ use Prim.Native.Nat.{ℕ, ◌+◌, ◌-◌, ◌*◌, ◌/◌, ◌%◌, ◌^◌, 
 use mathlib.Core.Path.{◌≡◌, refl, sym, ap, subst, ◌∙◌}
 use mathlib.Core.List.{List}
 use mathlib.Core.Bool.{Bool, true, false, cond, not}
-use native.Mathlib.Nat.{mod-eq_of_lt, mul_assoc, suc-mul, zero-add, zero-mul, zero-div, mul-le-mul_right, mul-add-div_right, mul-one, lt_of_le_of_lt}
+use native.Mathlib.Nat.{mod-eq_of_lt, mod-lt, mul_assoc, suc-mul, zero-add, zero-mul, zero-div, mul-le-mul_right, mul-add-div_right, mul-one, lt_of_le_of_lt}
 use native.Mathlib.Numerals.{add-one}
 use native.Mathlib.Omega.{arith}
 use borrow.Author.Tests.{eqb-true, eqb-false, eq-eqb, ne_eqb}
@@ -17,6 +17,7 @@ use Rattle.words.proofs.Lowest.{low_word, low_words}
 use Rattle.words.proofs.Meaning.{low_lowest, has_none}
 use Rattle.fit.proofs.Stray.{packed_shr, above_from}
 use Rattle.std.specs.Prelude.{Option, Some, None, is_some}
+use Rattle.std.proofs.lemmas.Nat.{div-add-mod'}
 use Rattle.region.specs.Visit.{next_of, Clear}
 
 -- ---- what it means
@@ -46,16 +47,17 @@ module _ (x from : ℕ) where
       has_from _ (omega arith) ∙ ap (has (x / 2 ^ from)) e ∙ (low_lowest _ h).0
 
   -- where there is no next atom, none is left
-  pub next_none : next_of x from ≡ None → (end : ℕ) → Clear x from end
-  next_none =
-      by_next (λ r. r ≡ None → (end : ℕ) → Clear x from end) (λ e told end i h l. none_from e i h) (λ h told. cc)
+  pub next_none : {r : Option ℕ} → r ≡ next_of x from → r ≡ None → (end : ℕ) → Clear x from end
+  next_none is none =
+      by_next (λ r. r ≡ None → (end : ℕ) → Clear x from end) (λ e told end i h l. none_from e i h) (λ h told. cc) (sym is ∙ none)
 
   -- the next atom is not below the place, it is in the set, and none from the place on lies below it
-  pub next_some : (a : ℕ) → next_of x from ≡ Some a → (from ≤ a) × (has x a ≡ true) × Clear x from a
-  next_some a =
+  pub next_some : {r : Option ℕ} {a : ℕ} → r ≡ next_of x from → r ≡ Some a → (from ≤ a) × (has x a ≡ true) × Clear x from a
+  next_some {a = a} is some =
       by_next (λ r. r ≡ Some a → (from ≤ a) × (has x a ≡ true) × Clear x from a) (λ e told. cc) (λ h told.
-      let is : from + low (x / 2 ^ from) ≡ a = cc in
-      (omega arith, ap (has x) (sym is) ∙ has_low h, λ i l under. has_from i l ∙ (low_lowest _ h).1 (i - from) (omega arith)))
+      let at : from + low (x / 2 ^ from) ≡ a = cc in
+      (omega arith, ap (has x) (sym at) ∙ has_low h, λ i l under. has_from i l ∙ (low_lowest _ h).1 (i - from) (omega arith)))
+      (sym is ∙ some)
 
   next_empty : x / 2 ^ from ≡ 0 → None ≡ next_of x from
   next_empty e = by_next (λ r. None ≡ r) (λ z. refl) (λ h. let z : ⊥ = omega arith in absurd z)
@@ -118,7 +120,19 @@ module _ (k : ℕ) (ws : List ℕ) (from : ℕ) where
 
   -- ---- the place is atom u of word i
 
-  module _ (i u : ℕ) (at : from ≡ i * k + u) where
+  module _ (whole : 0 < k) where
+    abbrev i : ℕ
+    i = from / k
+
+    abbrev u : ℕ
+    u = from % k
+
+    at : from ≡ i * k + u
+    at = sym (div-add-mod' from k)
+
+    below : u < k
+    below = mod-lt from whole
+
     in_word : packed k ws / 2 ^ from ≡ packed k (drop i ws) / 2 ^ u
     in_word =
         ap (λ (n : ℕ). packed k ws / 2 ^ n) at ∙ sym (shr-shr (packed k ws) (i * k) u) ∙ ap (λ (n : ℕ). n / 2 ^ u) (packed_shr k ws i)
@@ -126,11 +140,11 @@ module _ (k : ℕ) (ws : List ℕ) (from : ℕ) where
     pub start_none : length ws ≤ i → None ≡ next_of (packed k ws) from
     start_none h = next_empty (packed k ws) from (in_word ∙ ap (λ (n : ℕ). n / 2 ^ u) (left_none k ws i h) ∙ zero-div _)
 
-    module _ (below : u < k) (h : i < length ws) (fits : get_or ws i 0 < 2 ^ k) where
+    module _ (h : i < length ws) (fits : get_or ws i 0 < 2 ^ k) where
       cut : packed k ws / 2 ^ from ≡ packed k (drop (i + 1) ws) * 2 ^ (k - u) + get_or ws i 0 / 2 ^ u
       cut =
           let p = packed k (drop (i + 1) ws) in
-          let e : k - u + u ≡ k = omega arith in
+          let e : k - u + u ≡ k = omega (arith, below) in
           in_word ∙ ap (λ (n : ℕ). n / 2 ^ u) (left i h fits ∙ ap (λ (n : ℕ). n + get_or ws i 0) (sym (up p (k - u) u ∙ ap (λ (n : ℕ). p * 2 ^ n) e)))
           ∙ mul-add-div_right (pow_pos u) (p * 2 ^ (k - u)) (get_or ws i 0)
 
@@ -138,13 +152,13 @@ module _ (k : ℕ) (ws : List ℕ) (from : ℕ) where
       start_past e =
           let p = packed k (drop (i + 1) ws) in
           let empty : p * 2 ^ (k - u) + get_or ws i 0 / 2 ^ u ≡ p * 2 ^ (k - u) = omega arith in
-          let above : k - u ≡ (i + 1) * k - from = omega (arith, next_word i) in
-          record { reached = omega (arith, next_word i); rest = cut ∙ empty ∙ ap (λ (n : ℕ). p * 2 ^ n) above }
+          let above : k - u ≡ (i + 1) * k - from = omega (arith, next_word i, at) in
+          record { reached = omega (arith, next_word i, at, below); rest = cut ∙ empty ∙ ap (λ (n : ℕ). p * 2 ^ n) above }
 
       pub start_found : 0 < get_or ws i 0 / 2 ^ u → Some (from + count_trailing_zeros k (get_or ws i 0 / 2 ^ u)) ≡ next_of (packed k ws) from
       start_found some =
           let w = get_or ws i 0 / 2 ^ u in
-          let e : k ≡ k - u + u = omega arith in
+          let e : k ≡ k - u + u = omega (arith, below) in
           let short : w < 2 ^ (k - u) = shr_lt (k - u) u (subst (λ (n : ℕ). get_or ws i 0 < 2 ^ n) e fits) in
           ap (λ (n : ℕ). Some (from + n)) (sym (low_word k w some (lt_of_le_of_lt (shr_le (get_or ws i 0) u) fits)) ∙ low_word (k - u) w some short ∙ sym (zero-add _))
           ∙ next_in (packed k ws) from (k - u) (packed k (drop (i + 1) ws)) w 0 (cut ∙ sym (mul-one _)) some short

@@ -16,7 +16,7 @@ use rows::Atom;
 
 pub mod promises;
 
-// "n, held and cut masks"
+// "n, held and cut masks": two masks and no list of decisions, since a row is met with words.
 #[repr(C)]
 #[derive(Clone, Copy)]
 pub struct Region {
@@ -40,8 +40,9 @@ pub fn mask<'a>(held: &'a [u64], cut: &'a [u64], value: bool) -> &'a [u64]
     if value { held } else { cut }
 }
 
-// The lowest atom from `from` on in a mask of eight words, if it has one. (By place: what `words::first` finds in the words left over would have
-// to be moved up by a place that the proof first bounds, which is longer.)
+// The lowest atom from `from` on in a mask of eight words, if it has one. (By place: tried with `words::first`, what it finds
+// in the words left over has to be moved up by a place that the proof first bounds, which is longer.)
+#[tactic(auto, using(crate::proofs::Nexts::start_none, crate::proofs::Nexts::start_found, crate::proofs::Nexts::start_past, crate::proofs::Nexts::past_found, crate::proofs::Nexts::past_next, crate::proofs::Nexts::past_none))]
 pub fn next(mask: &[u64; 8], from: usize) -> Option<usize>
     ensures { result ≡ next_of (set_of mask.now) from }
 {
@@ -120,6 +121,7 @@ impl Region {
     }
 
     // Whether the region is fit.
+    #[tactic(auto, using(crate::proofs::Deciding::check_is))]
     pub fn check(&self) -> Result<(), Refusal>
         ensures { result ≡ region_check self.now }
     {
@@ -139,7 +141,7 @@ impl Region {
     }
 
     // Whether the atom can be decided.
-    #[tactic(auto, using(crate::proofs::Deciding::decide_is))]
+    #[tactic(auto, using(crate::proofs::Masked::decide_is))]
     fn check_decision(&self, atom: Atom) -> Result<(), Refusal>
         ensures { result ≡ decide_check self.now atom }
     {
@@ -151,7 +153,7 @@ impl Region {
     }
 
     // Settles an atom as true or false: what becomes of the decision, and the region with it. A refused decision, or one that is against, alters
-    // nothing.
+    // nothing. (Atom and value are two: `hold` and `cut` have the value in their names.)
     fn decide(mut self, atom: Atom, value: bool) -> (Result<Answer, Refusal>, Region)
         ensures { result ≡ decide_of value self atom }
     {

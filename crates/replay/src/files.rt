@@ -7,7 +7,7 @@ use region::Region;
 use rows::Atom;
 use snapshot::Snapshot;
 
-// A call, recorded as its number, from 0 on, and its atom.
+// A call, recorded as its number, from 0 on, and its atom. (A closed set, which one `match` takes apart; any number above 2 is read as a probe.)
 enum Call {
     Cut(Atom),
     Hold(Atom),
@@ -30,7 +30,8 @@ impl Recorded for Call {
     }
 }
 
-// What stands between calls: region and knowledge, and what the last inspection told, in memory that had 7 everywhere.
+// What stands between calls: region and knowledge, and what the last inspection told, in memory that had 7 everywhere: two lists, as `inspect` is lent
+// them, and the count that it answers.
 #[derive(Drop)]
 struct Run {
     region: Region,

@@ -51,7 +51,8 @@ impl Memory {
     }
 }
 
-// What preparation answers: number, atoms, rows, rank, refuted, additions, units and incidences. A refused call has its number and else 0.
+// What preparation answers: number, atoms, rows, rank, refuted, additions, units and incidences. A refused call has its number and else 0. (No From:
+// neither array nor Result is this crate's own.)
 fn told(said: Result<Prepared, Refusal>) -> [usize; 8] {
     match said {
         Ok(prepared) => [

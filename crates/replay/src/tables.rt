@@ -3,7 +3,7 @@ use super::tape::Tape;
 use hull::Hull;
 use refusal::Refusal;
 
-// A refused call has its number and else 0.
+// What `propose` says, as it is recorded: a refused call has its number and else 0. (No From, as in `systems`.)
 fn told(said: Result<Hull, Refusal>) -> [usize; 19] {
     let mut numbers = [0usize; 19];
     let hull = match said {

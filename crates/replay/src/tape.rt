@@ -90,7 +90,7 @@ impl<'a> Tape<'a> {
         (usize::from(count), self.part(size))
     }
 
-    // Compares values: those recorded, and all further ones `other`.
+    // Compares values: those recorded, and all further ones `other`. (By place: that says whether a value is to be as recorded, or `other`.)
     pub fn compare<T: Recorded + Copy + PartialEq>(&mut self, values: &[T], other: T) {
         let (count, mut list) = self.list::<T>();
         let mut agrees = count <= values.len();

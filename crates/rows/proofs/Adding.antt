@@ -12,22 +12,30 @@ use lib.Dec.{leb, ltb}
 use lib.Bits.{bit_xor}
 use Rattle.std.proofs.lemmas.List.{drop-take}
 use Rattle.words.specs.Calls.{merged}
+use Rattle.rows.specs.Flat.{row}
+
+-- an earlier row ends where a later one begins, or before
+pub earlier : (w t s : ℕ) → s < t → s * w + w ≤ t * w
+earlier w t s h = omega (arith, suc-mul s w, mul-le-mul_right w h)
 
 -- the earlier part has the earlier row
-front_part : (w x y : ℕ) (ws : List ℕ) → y + w ≤ x → take w (drop y (take x ws)) ≡ take w (drop y ws)
+pub front_part : (w x y : ℕ) (ws : List ℕ) → y + w ≤ x → take w (drop y (take x ws)) ≡ take w (drop y ws)
 front_part w x y ws h =
     let e : x ≡ y + (x - y) = omega arith in
     ap (λ (n : ℕ). take w (drop y (take n ws))) e ∙ ap (take w) (drop-take y (x - y) ws) ∙ take-take w (x - y) (drop y ws) (omega arith)
 
 -- the words from word i of a row on added, n of them: the rest of the row and all other words stay
-pub added_split : (i n w x y j k : ℕ) (ws p q new : List ℕ) → i + n ≡ w → j ≡ y + i → k ≡ n → y + w ≤ x → x + w ≤ length ws → p ≡ take x ws → q ≡ drop x ws
-    → new ≡ merged bit_xor (take n (drop i q)) (take k (drop j p))
+pub added_split : {p q new : List ℕ} (i n w t s j k : ℕ) (ws : List ℕ) → i + n ≡ w → j ≡ s * w + i → k ≡ n → s < t → t * w + w ≤ length ws
+    → p ≡ take (t * w) ws → q ≡ drop (t * w) ws → new ≡ merged bit_xor (take n (drop i q)) (take k (drop j p))
     → p ++ (take i q ++ (new ++ drop w q))
-    ≡ take x ws ++ ((take i (take w (drop x ws)) ++ zip_with bit_xor (drop i (take w (drop x ws))) (drop i (take w (drop y ws)))) ++ drop (x + w) ws)
+    ≡ take (t * w) ws ++ ((take i (row w ws t) ++ zip_with bit_xor (drop i (row w ws t)) (drop i (row w ws s))) ++ drop (t * w + w) ws)
 unfolding merged
-added_split i n w x y j k ws p q new wide place count before fits front back joined =
-    let later = take w (drop x ws) in
-    let sooner = take w (drop y ws) in
+added_split {p} {q} {new} i n w t s j k ws wide place count order fits front back joined =
+    let x = t * w in
+    let y = s * w in
+    let before = earlier w t s order in
+    let later = row w ws t in
+    let sooner = row w ws s in
     let part : (l : List ℕ) → drop i (take w l) ≡ take n (drop i l) = λ l. ap (λ m. drop i (take m l)) (sym wide) ∙ drop-take i n l in
     let from : take k (drop j p) ≡ drop i sooner =
     ap₂ (λ m l. take m (drop j l)) count front ∙ ap (λ m. take n (drop m (take x ws))) place ∙ front_part n x (y + i) ws (omega arith)
@@ -39,10 +47,6 @@ added_split i n w x y j k ws p q new wide place count before fits front back joi
     let kept : take i q ≡ take i later = ap (take i) back ∙ sym (take-take i w (drop x ws) (omega arith)) in
     ap₂ ◌++◌ front (ap₂ ◌++◌ kept (ap₂ ◌++◌ sum (ap (drop w) back ∙ drop-drop w x ws)))
     ∙ ap (λ l. take x ws ++ l) (sym (append_assoc (take i later) (zip_with bit_xor (drop i later) (drop i sooner)) (drop (x + w) ws)))
-
--- an earlier row ends where a later one begins, or before
-pub earlier : (w t s : ℕ) → s < t → s * w + w ≤ t * w
-earlier w t s h = omega (arith, suc-mul s w, mul-le-mul_right w h)
 
 -- what the tests of `add` tell
 pub record CanAdd (w n c t s : ℕ) : Type 0 where

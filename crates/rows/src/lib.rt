@@ -1,6 +1,6 @@
-// Rows of parity equations in flat lent words: row r at r·W words of the rows, its constant at byte r of the constants.
-// Every call is total: where a row, a constant or a mask does not lie within what is lent, nothing is changed and the answer says so. Rows,
-// constants and their width are passed one by one, as C lends them; `echelon`, which works on them for long, has a struct of them.
+// Rows of parity equations in flat lent words: row r at r·W words of the rows, its constant at byte r of the constants. Every call is total: where a
+// row, a constant or a mask does not lie within what is lent, nothing is changed and the answer says so. Rows, constants, their width, and a target
+// with its source are passed one by one, as C lends them; `echelon`, which works on rows for long, has a struct of them.
 #![tactic(auto)]
 
 ghost use Rattle.std.specs.Prelude.{◌≡◌, cond, ◌&&◌, ◌+◌, ◌*◌, ◌≤◌, ◌<◌, length, leb, ltb};
@@ -106,15 +106,16 @@ pub fn overlap_parity(
     Ok(words::intersection_parity(words, mask)?)
 }
 
-// The same as yes or no: no where the row or the mask is not there.
+// The same as yes or no: no where the row or the mask is not there. (A bool and no Result: for a caller who knows that row and mask are there; no crate
+// here calls it.)
 pub fn overlaps_odd(rows: &[u64], width: usize, number: Source, mask: &[u64]) -> bool
     ensures { result ≡ is_odd (overlap_parity_of width rows.now number mask.now) }
 {
     overlap_parity(rows, width, number, mask).unwrap_or(false)
 }
 
-// How many of the mask's atoms the row has. (Three lines as above over another call of `words`: a function of that call would say more in its
-// contract than they do.)
+// How many of the mask's atoms the row has. (Three lines as in `overlap_parity` over another call of `words`: a function of that call would say more in
+// its contract than they do.)
 #[tactic(auto, unfolding(crate::specs::Calls::part_of, crate::specs::Calls::overlap_count_of, words::specs::Calls::intersection_of))]
 pub fn overlap_count(
     rows: &[u64],
@@ -136,7 +137,8 @@ fn can_add(words: usize, constants: usize, width: usize, target: Source, source:
     source.0 < target.0 && target.0 < constants && lie_within(words, width, target.0, 1)
 }
 
-// Adds the words of an earlier row to a later one.
+// Adds the words of an earlier row to a later one. (That the later row lies within is asked, and it comes by its number: it is split off from the rows
+// before it.)
 #[tactic(auto, unfolding(crate::specs::Calls::added_words))]
 fn add_words(rows: &mut [u64], width: usize, target: Source, source: Source)
     requires { (source.0 < target.0) × (target.0 * width + width ≤ length rows.old) }

@@ -14,7 +14,8 @@ use std::io;
 mod expected;
 mod table;
 
-// Prepares what is lent as 512 constants and else no memory: enough for no rows, and for 512 without atoms.
+// Prepares what is lent as 512 constants and else no memory, each list an array of its own, as `prepare` is lent them: enough for no rows, and for 512
+// without atoms.
 fn prepare_nothing(n: usize, m: usize) -> Result<Prepared, Refusal>
     ensures { result ≡ (prepare_of n m (lent [] (replicate 512 0) [] [] [] [])).0 }
 {
@@ -49,6 +50,7 @@ fn print_checked(rt: &impl Print, atoms: u16, rows: usize) -> io::Result<()>
         row[0] = 3;
         row[2] = 2;
     }
+    // The file `stdout` has 0 at 0 for a file that is fit.
     let (number, offset) = match records::check(&file[..end]) {
         Ok(_) => (0, 0),
         Err(fault) => (fault.kind.number(), fault.offset),

@@ -1,7 +1,7 @@
 -- What checks say that do not refuse: limits, and bits past the rank.
 use Prim.Native.Nat.{ℕ, ◌*◌, ◌≤◌, min}
 use native.Mathlib.Omega.{arith}
-use mathlib.Core.Path.{◌≡◌, refl, ap, ◌∙◌}
+use mathlib.Core.Path.{◌≡◌, refl}
 use mathlib.Core.List.{List}
 use mathlib.Core.Bool.{Bool, true, false, cond, not, ◌&&◌, false≢true}
 use borrow.Author.Tests.{ltb-false, le-ltb}
@@ -20,7 +20,7 @@ use Rattle.parity.specs.declared.System.{System}
 use Rattle.region.specs.declared.Region.{Region}
 use Rattle.region.specs.Calls.{strayed, clashes, region_check}
 use Rattle.snapshot.specs.Knowledge.{overfull_by, unequal, missing}
-use Rattle.snapshot.specs.Touch.{touched_check}
+use Rattle.snapshot.specs.Touch.{last_check, touched_check}
 use Rattle.snapshot.specs.declared.Snapshot.{Snapshot}
 
 -- a check that is asked where another holds
@@ -68,21 +68,22 @@ region_passed r e =
     let stray = passed (strayed r) _ _ few.1 in
     (stray.0, (passed (clashes r) _ _ stray.1).0)
 
--- ---- where the first checks pass, what `past_rank` asks
+-- ---- where the first checks pass, what the last ones tell
 
 module _ (s : System) (index : List ℕ) (r : Region) (known : Snapshot) (full : overfull_by s r known ≡ false) (few : s.rank ≤ min s.rows s.atoms)
     (room : s.atoms * column_width s.rank ≤ length index) where
-  pub over : eqb (number_in (column_check index s.atoms s.rank (record { 0 = 0 }))) 14 ≡ over_rank s.rank (column_width s.rank) index s.atoms
+  over : eqb (number_in (column_check index s.atoms s.rank (record { 0 = 0 }))) 14 ≡ over_rank s.rank (column_width s.rank) index s.atoms
   over =
       let most = limits s r known full in
       over_rank_is index s.atoms s.rank (record { 0 = 0 }) most.atoms (omega (arith, most.atoms, most.rows)) room
 
-  pub last_checks : (past : Bool) → past ≡ (not s.refuted && eqb (number_in (column_check index s.atoms s.rank (record { 0 = 0 }))) 14)
-      → region_check r ≡ Ok tt
-      → cond past (Err Index) (cond (unequal s r known) (Err Unequal) (cond (missing r known) (Err Missing) (Ok tt))) ≡ touched_check s index r known
+  -- 14 of the index itself
+  pub last_is : last_check s index r known
+      ≡ cond (not s.refuted && over_rank s.rank (column_width s.rank) index s.atoms) (Err Index) (cond (unequal s r known) (Err Unequal) (cond (missing r known) (Err Missing) (Ok tt)))
+  last_is = rw over refl
+
+  pub touched_is : region_check r ≡ Ok tt → last_check s index r known ≡ touched_check s index r known
   unfolding touched_check
-  last_checks past is e =
+  touched_is e =
       let own = region_passed r e in
-      simp (full, le-ltb (min s.rows s.atoms) s.rank few, le-ltb (length index) (s.atoms * column_width s.rank) room, own.0, own.1)
-      (ap (λ (b : Bool). cond b (Err Index) (cond (unequal s r known) (Err Unequal) (cond (missing r known) (Err Missing) (Ok tt))))
-      (is ∙ ap (λ (b : Bool). not s.refuted && b) over))
+      simp (full, le-ltb (min s.rows s.atoms) s.rank few, le-ltb (length index) (s.atoms * column_width s.rank) room, own.0, own.1) last_is

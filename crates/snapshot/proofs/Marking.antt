@@ -14,6 +14,8 @@ use Rattle.words.specs.Set.{packed, set_of, has}
 use Rattle.words.proofs.Meaning.{has_none}
 use Rattle.rows.specs.Calls.{part_of}
 use Rattle.region.specs.Visit.{Clear}
+use Rattle.region.specs.declared.Atoms.{Atoms}
+use Rattle.region.proofs.Visiting.{Given}
 use Rattle.snapshot.specs.Steps.{Adds}
 use Rattle.snapshot.specs.Touch.{marked, marks}
 
@@ -55,29 +57,26 @@ module _ (w : ℕ) (index : List ℕ) (a : ℕ) (rows : List ℕ) where
       ∙ ap (λ (o : Option (List ℕ)). has (set_of rows) j || has (set_of (unwrap_or o [])) j) is
 
 -- the columns of the atoms below `from` are joined
-module _ (x w : ℕ) (index rows : List ℕ) where
-  pub record Marked (from : ℕ) (rows' : List ℕ) : Type 0 where
-    pub kept : length rows' ≡ length rows
-    pub joined : Adds rows (λ j. marks (has x) w index j from) rows'
+pub record Marked (x w : ℕ) (index rows : List ℕ) (from : ℕ) (rows' : List ℕ) : Type 0 where
+  pub kept : length rows' ≡ length rows
+  pub joined : Adds rows (λ j. marks (has x) w index j from) rows'
 
-  pub marked_start : Marked 0 rows
-  unfolding marks
-  marked_start = record { kept = refl; joined = λ j h. sym (or-false _) }
+pub marked_start : (x w : ℕ) (index rows : List ℕ) (from : ℕ) → from ≡ 0 → Marked x w index rows from rows
+unfolding marks
+marked_start x w index rows from none = rw none (record { kept = refl; joined = λ j h. sym (or-false _) })
 
-  module _ (from : ℕ) (rows' : List ℕ) (m : Marked from rows') (a : ℕ) (le : from ≤ a) (passed : Clear x from a) where
-    -- where atom a is the next one, and its column is joined
-    pub marked_next : has x a ≡ true → (rows'' : List ℕ) → length rows'' ≡ length rows'
-        → Adds rows' (marked w index a) rows'' → Marked (a + 1) rows''
-    marked_next found rows'' same joins = record {
-      kept = same ∙ m.kept;
-      joined = λ j l.
-          joins j (omega (arith, m.kept)) ∙ ap (λ (t : Bool). t || marked w index a j) (m.joined j l)
-          ∙ or_assoc (has (set_of rows) j) (marks (has x) w index j from) (marked w index a j)
-          ∙ ap (λ (t : Bool). has (set_of rows) j || t)
-          (ap (λ (t : Bool). t || marked w index a j) (sym (marks_on w index j (has x) from a le passed))
-          ∙ sym (marks_one w index j (has x) a found));
-    }
+module _ {x w from : ℕ} {index rows rows' : List ℕ} (m : Marked x w index rows from rows') where
+  -- where none is left below a
+  pub marked_end : (a : ℕ) → from ≤ a → Clear x from a → Adds rows (λ j. marks (has x) w index j a) rows'
+  marked_end a le passed j l = m.joined j l ∙ ap (λ (t : Bool). has (set_of rows) j || t) (sym (marks_on w index j (has x) from a le passed))
 
-    -- where none is left below a
-    pub marked_end : Adds rows (λ j. marks (has x) w index j a) rows'
-    marked_end j l = m.joined j l ∙ ap (λ (t : Bool). has (set_of rows) j || t) (sym (marks_on w index j (has x) from a le passed))
+module _ {s t : Atoms} {atoms index rows rows' : List ℕ} {n a w : ℕ} (step : Given s t atoms n a) (m : Marked (set_of atoms) w index rows s.from rows') where
+  -- where a visit gives atom a, and its column is joined
+  pub marked_next : {rows'' : List ℕ} → length rows'' ≡ length rows' → Adds rows' (marked w index a) rows'' → Marked (set_of atoms) w index rows t.from rows''
+  marked_next same joins = rw step.after (record {
+    kept = same ∙ m.kept;
+    joined = λ j l.
+        joins j (omega (arith, m.kept)) ∙ ap (λ (b : Bool). b || marked w index a j) (marked_end m a step.reached step.passed j l)
+        ∙ or_assoc (has (set_of rows) j) (marks (has (set_of atoms)) w index j a) (marked w index a j)
+        ∙ ap (λ (b : Bool). has (set_of rows) j || b) (sym (marks_one w index j (has (set_of atoms)) a step.found));
+  })

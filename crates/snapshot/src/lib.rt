@@ -1,5 +1,6 @@
-// Knowledge of the region that was inspected last, a port of snapshot.rs, and the basis rows that the decisions made since then touch.
-// Every call is total: unfit arguments are refused with document 01's number.
+// Knowledge of the region that was inspected last, a port of snapshot.rs, and the basis rows that the decisions made since then touch. Every call is
+// total: unfit arguments are refused with document 01's number. System, index, region and knowledge are passed one by one, as C lends them: other calls
+// take one of them.
 #![tactic(auto)]
 
 ghost use Rattle.std.specs.Prelude.{◌≡◌, not, ◌&&◌, ◌%◌, ◌^◌, ◌≤◌, length, eqb};
@@ -133,7 +134,7 @@ fn first_bits(count: usize, word: u64) -> u64
     word & ((1 << count) - 1)
 }
 
-// Keeps the rows below the rank.
+// Keeps the rows below the rank. (`left` is how much of the rank is still to come, 64 less at each word: words past it are cleared.)
 fn keep_below(rows: &mut [u64], rank: usize)
     ensures { rows.new ≡ unpack 64 (length rows.old) (set_of rows.old % 2 ^ rank) }
 {
@@ -164,7 +165,7 @@ fn join_columns(rows: &mut [u64], atoms: &[u64; 8], index: &[u64], width: usize,
     }
 }
 
-// The basis rows, up to 512, that the decisions made since the knowledge was published touch. It asks for no number: `touched` does.
+// The basis rows, up to 512, that the decisions made since the knowledge was published touch. It checks nothing: `touched` does.
 pub fn select(rank: usize, index: &[u64], region: Region, known: Snapshot) -> Ordinals
     ensures { result ≡ ordinals_of (touched_of rank index.now region known) }
 {
@@ -201,7 +202,7 @@ pub fn past_rank(system: System, index: &[u64]) -> bool
         )
 }
 
-// Whether what `touched` is asked is fit.
+// Whether what `touched` is asked is fit: the checks of `inspect`, without those of the lists that it is not lent.
 #[tactic(auto, unfolding(crate::specs::Touch::touched_check, region::specs::Calls::region_check))]
 fn check(system: System, index: &[u64], region: Region, known: Snapshot) -> Result<(), Refusal>
     ensures { result ≡ touched_check system index.now region known }

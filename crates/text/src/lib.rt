@@ -1,6 +1,7 @@
 // Text written into lent bytes: words, decimals, and the two in turn. Every call is total: it writes what fits behind what is already
 // written, and whether all of it fitted is asked once, of the whole text.
-// Not by `write!`: std says what was written only where that answers `Ok`, and no clause says that it does.
+// Not by `write!`: tried in `put_decimal`, the contract did not prove, since std says what was written, and how much room is left, only where that
+// answers `Ok`, and no clause says that it does.
 #![tactic(auto)]
 
 ghost use Rattle.std.specs.Prelude.{◌≡◌, ◌≤◌, min, length};

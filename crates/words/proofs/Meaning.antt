@@ -229,30 +229,23 @@ rise (suc n) x y t l at below rest = elim (cases_lt t n) [
       ∙ ap (λ (m : List ℕ). t ∷ m) (sym (ap₂ (λ (m : List ℕ) (d : Bool). m ++ cond d (n ∷ []) []) (none_in n y before) gone))
 ]
 
--- what a step gives where x is left
-step_from : SetBits → Bool → Option ℕ × SetBits
-step_from s t = cond t (None, s) (Some (low s.remaining), record { remaining = s.remaining - 2 ^ low s.remaining })
+-- what a step of a visit gives: the lowest, and the others; or none are left
+pub visit_some : (s j : SetBits) (y : ℕ) → Visits s (Some y) j → (0 < s.remaining) × (y ≡ low s.remaining) × (j.remaining ≡ s.remaining - 2 ^ low s.remaining)
+visit_some s j y v = go s.remaining v
+  where
+    go : (x : ℕ) → Visits (record { remaining = x }) (Some y) j → (0 < x) × (y ≡ low x) × (j.remaining ≡ x - 2 ^ low x)
+    go zero v = let e : Some y ≡ None = ap (λ (q : Option ℕ × SetBits). q.0) v in let z : ⊥ = cc in absurd z
+    go (suc x) v =
+        let m = rw (eqb-suc-zero x) at v in
+        let first : Some y ≡ Some (low (suc x)) = ap (λ (q : Option ℕ × SetBits). q.0) m in
+        (omega arith, cc, ap (λ (q : Option ℕ × SetBits). q.1.remaining) m)
 
-visit_more : (y : ℕ) (s j : SetBits) → eqb s.remaining 0 ≡ false → Visits s (Some y) j → (y ≡ low s.remaining) × (j.remaining ≡ s.remaining - 2 ^ low s.remaining)
-unfolding step_from
-visit_more y s j e v =
-    let p : (Some y, j) ≡ step_from s false = v ∙ ap (step_from s) e in
-    let q : Some y ≡ Some (low s.remaining) = ap (λ (q : Option ℕ × SetBits). q.0) p in
-    (cc, ap (λ (q : Option ℕ × SetBits). q.1.remaining) p)
-
-visit_end : (y : ℕ) (s j : SetBits) → eqb s.remaining 0 ≡ true → Visits s (Some y) j → ⊥
-unfolding step_from
-visit_end y s j e v =
-    let p : (Some y, j) ≡ step_from s true = v ∙ ap (step_from s) e in
-    let q : Some y ≡ None = ap (λ (q : Option ℕ × SetBits). q.0) p in
-    cc
-
-visit_on : (s j : SetBits) → eqb s.remaining 0 ≡ false → Visits s None j → ⊥
-unfolding step_from
-visit_on s j e v =
-    let p : (None, j) ≡ step_from s false = v ∙ ap (step_from s) e in
-    let q : None ≡ Some (low s.remaining) = ap (λ (q : Option ℕ × SetBits). q.0) p in
-    cc
+visit_none : (s j : SetBits) → Visits s None j → s.remaining ≡ 0
+visit_none s j v = go s.remaining v
+  where
+    go : (x : ℕ) → Visits (record { remaining = x }) None j → x ≡ 0
+    go zero v = refl
+    go (suc x) v = let e : None ≡ Some (low (suc x)) = ap (λ (q : Option ℕ × SetBits). q.0) (rw (eqb-suc-zero x) at v) in cc
 
 low_le : (x : ℕ) → 0 < x → 2 ^ low x ≤ x
 low_le x h = let f = low_form x h in omega (arith, f.is, suc-mul (f.half * 2) (2 ^ low x), ap (λ (m : ℕ). m * 2 ^ low x) (add-one (f.half * 2)))
@@ -266,17 +259,16 @@ visits (suc k) s b h = elim (cases_lt 0 s.remaining) [
       let step = low_le x some in
       let l : t < 64 = omega (arith, low_word 64 x some h, (trailing_form 64 x some h).below) in
       let at = low_lowest x some in
-      let on : eqb x 0 ≡ false = ne_eqb x 0 (λ z. omega arith) in
       subst (λ (m : List ℕ). AlwaysYields Visits (λ a. a) s m) (sym (rise 64 x (x - 2 ^ t) t l at.0 at.1 (λ b. step_visits x b some))) (
-        λ j v. visit_on s j on v,
+        λ j v. omega (arith, visit_none s j v),
         λ y j v.
-            let m = visit_more y s j on v in
-            (m.0, subst (λ (n : ℕ). AlwaysYields Visits (λ a. a) j (atoms_in 64 n)) m.1 (visits k j (omega (arith, m.1, pow_pos t)) (omega (arith, m.1)))),
+            let m = visit_some s j y v in
+            (m.1, subst (λ (n : ℕ). AlwaysYields Visits (λ a. a) j (atoms_in 64 n)) m.2 (visits k j (omega (arith, m.2, pow_pos t)) (omega (arith, m.2)))),
       )
   | inr none ↦
       let empty : s.remaining ≡ 0 = omega arith in
       subst (λ (m : List ℕ). AlwaysYields Visits (λ a. a) s m) (sym (none_in 64 s.remaining (λ b l. ap (λ (n : ℕ). has n b) empty ∙ has_none b)))
-      (λ y j v. visit_end y s j (eq-eqb s.remaining 0 empty) v)
+      (λ y j v. omega (arith, (visit_some s j y v).0))
 ]
 
 pub bits_rise : BitsRise

@@ -114,8 +114,8 @@ pub fn clear(words: &mut [u64])
     words.fill(0);
 }
 
-// Joins two sets of one length word by word, and says whether they are of one length. (By place in `right`: after `iter_mut` with `zip` a proof
-// knows nothing of what was written.)
+// Joins two sets of one length word by word, and says whether they are of one length. (By place in `right`: tried, after `iter_mut` with `zip` a proof
+// knows the length of what was written, and not the entries.)
 fn merge<F: Fn(u64, u64) -> u64>(left: &mut [u64], right: &[u64], op: F) -> bool
     requires { F.IsAlwaysCallable op }
     ensures equal { result ≡ eqb (length left.old) (length right.now) }

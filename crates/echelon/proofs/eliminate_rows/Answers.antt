@@ -11,18 +11,18 @@ loop-t-init g c =
     let d = c.empty-directory.ensures in
     let covers = c.requires.covers in (
       search rules,
-      rw d (upto_start _ _ _ _ _ _ (directory_start _ _ _ _ _ (none_listed g.row.N) (simp length-replicate covers)) c.requires.fits),
+      rw d (upto_start _ (directory_start _ _ _ _ _ (none_listed g.row.N) (simp length-replicate covers)) c.requires.fits),
     )
 
 pub bounds-basis-rank : goal.bounds-basis-rank
 bounds-basis-rank g c =
     let row = rw c.loop-t.invariant.0.shape at c.reduce-row.ensures.left in
-    omega (arith, pivot_room _ _ _ _ _ _ _ _ _ _ _ _ c.loop-t.invariant.1 (omega arith) _ _ _ _ row _ c.in-Some.is c.args.m (omega arith), c.requires.ready.entries)
+    omega (arith, pivot_room c.loop-t.invariant.1 (omega arith) row c.in-Some.is c.args.m (omega arith), c.requires.ready.entries)
 
 pub returns-then-rows-t-eq1 : goal.returns-then-rows-t-eq1
 returns-then-rows-t-eq1 g c =
     let row = rw c.loop-t.invariant.0.shape at c.reduce-row.ensures.left in
-    let done = upto_refuted _ _ _ _ _ _ _ _ _ _ _ _ c.loop-t.invariant.1 (omega arith) _ _ _ _ row c.args.m (omega arith) c.in-None.is c.if-rows-t-eq1.true in
+    let done = upto_refuted c.loop-t.invariant.1 (omega arith) row c.args.m (omega arith) c.in-None.is c.if-rows-t-eq1.true in
     search rules
 
 pub loop-t-preserved : goal.loop-t-preserved
@@ -32,17 +32,17 @@ loop-t-preserved g c =
       search rules,
       elim c.match-row.branch [
         | in-Some w ↦
-            let room = pivot_room _ _ _ _ _ _ _ _ _ _ _ _ so (omega arith) _ _ _ _ row _ w.in-Some.is c.args.m (omega arith) in
+            let room = pivot_room so (omega arith) row w.in-Some.is c.args.m (omega arith) in
             rw (w.basis-is, w.directory-is, w.rank-is, w.enter.ensures, add-one c.loop-t.t)
-            (upto_pivot _ _ _ _ _ _ _ _ _ _ _ _ so (omega arith) _ _ _ _ row _ w.in-Some.is (omega (arith, c.requires.ready.entries)) (omega arith))
+            (upto_pivot so (omega arith) row w.in-Some.is (omega (arith, c.requires.ready.entries)) (omega arith))
         | in-None+else-rows-t-eq1 w ↦
             rw (w.basis-is, w.directory-is, w.rank-is, add-one c.loop-t.t)
-            (upto_empty _ _ _ _ _ _ _ _ _ _ _ _ so (omega arith) _ _ _ _ row w.in-None.is w.if-rows-t-eq1.false)
+            (upto_empty so (omega arith) row w.in-None.is w.if-rows-t-eq1.false)
       ],
     )
 
 pub returns : goal.returns
 returns g c =
     let all : c.loop-t.t ≡ c.args.m = omega arith in
-    let done = rw all at (upto_end _ _ _ _ _ _ _ _ _ _ _ _ c.loop-t.invariant.1 (rw all c.requires.ready.words) (rw all c.requires.ready.constants)) in
+    let done = rw all at (upto_end c.loop-t.invariant.1 (rw all c.requires.ready.words) (rw all c.requires.ready.constants)) in
     search rules

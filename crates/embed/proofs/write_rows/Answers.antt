@@ -16,10 +16,10 @@ loop-i-preserved c =
     let words : (f + i) * c.args.width + c.args.width ≤ length c.args.rows.now = omega (arith, c.requires.words, earlier c.args.width (f + length es) (f + i) (omega arith)) in
     let room : (f + i) * c.args.width + c.args.width ≤ length c.loop-i.rows = omega (arith, c.loop-i.invariant.kept) in
     writing_next _ _ es _ _ f _ _ i c.loop-i-test.true words (omega (arith, c.requires.constants)) c.loop-i.invariant _
-    (put_row c.args.names.now _ _ c.args.width c.loop-i.rows _ room c.write_row.ensures) (put_length c.args.names.now _ _ c.args.width c.loop-i.rows _ room c.write_row.ensures) _ (c.from.ensures ∙ byte_bit _)
+    (put_row _ _ _ _ _ _ room c.write_row.ensures) (put_length _ _ _ _ _ _ room c.write_row.ensures) _ (c.from.ensures ∙ byte_bit _)
 
 pub returns-clause-words : goal.returns-clause-words
-returns-clause-words c = words_written _ _ _ _ _ _ _ _ _ c.loop-i.invariant c.loop-i-test.false
+returns-clause-words c = grind (arith, words_written)
 
 pub returns-clause-constants : goal.returns-clause-constants
-returns-clause-constants c = constants_written _ _ _ _ _ _ _ _ _ c.loop-i.invariant c.loop-i-test.false
+returns-clause-constants c = grind (arith, constants_written)

@@ -26,7 +26,7 @@ pub returns : goal.returns
 returns c =
     let a = c.args in
     let is = sound (goal.at.returns c).In_ok-check in
-    let masked : Masked a.system.atoms (decisions a.region) c.of.result.held c.of.result.free = rw (sym is.same) (c.of.ensures.fit is.region) in
+    let masked : Masked a.system.atoms (decisions a.region) c.from.result.held c.from.result.free = rw (sym is.same) (c.from.ensures.2 is.region) in
     fine_is a.system a.rows.now a.constants.now a.basis.now a.region (fit (goal.at.returns c).In_ok-check) _
     (sound_is a.system a.rows.now a.constants.now a.basis.now a.region c.open_count-undecided.result c.open_count-undecided.ensures c.if-system.false c.eliminate-left.result
     (c.eliminate-left.ensures (decisions a.region) masked))

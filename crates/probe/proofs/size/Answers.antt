@@ -1,24 +1,22 @@
 -- `size`: up to eight words can be counted.
-use Prim.Native.Nat.{◌≤◌}
 use mathlib.Core.Path.{◌≡◌, refl, sym, ◌∙◌}
 use native.Mathlib.Omega.{arith}
-use lib.ListN.{length, take}
+use lib.ListN.{take}
 use lib.Seq.{length-take-le}
 use lib.Count.{ones}
 use Rattle.std.specs.Prelude.{Ok}
 use Rattle.words.specs.Set.{set_of}
 use Rattle.parity.proofs.Single.{counted_few}
 use Rattle.probe.proofs.size.Goals as goal
+use Rattle.probe.proofs.size.Goals.{After-count}
+
+counted : (c : After-count) → c.count.result ≡ Ok (ones (set_of (take c.args.width c.args.mask.now)))
+counted c = c.count.ensures ∙ counted_few _ (omega (arith, length-take-le c.args.width c.args.mask.now c.requires.1, c.requires.0))
 
 pub unwrap-requires : goal.unwrap-requires
-unwrap-requires c =
-    let ws = take c.args.width c.args.mask.now in
-    let few : length ws ≤ 8 = omega (arith, length-take-le c.args.width c.args.mask.now c.requires.1, c.requires.0) in
-    rw (c.count.ensures, counted_few ws few) refl
+unwrap-requires c = rw (counted (goal.at.unwrap-requires c).After-count) refl
 
 pub returns : goal.returns
 returns c =
-    let ws = take c.args.width c.args.mask.now in
-    let few : length ws ≤ 8 = omega (arith, length-take-le c.args.width c.args.mask.now c.requires.1, c.requires.0) in
-    let same : Ok c.unwrap.result ≡ Ok (ones (set_of ws)) = sym c.unwrap.ensures ∙ c.count.ensures ∙ counted_few ws few in
+    let same = sym c.unwrap.ensures ∙ counted (goal.at.returns c).After-count in
     cc

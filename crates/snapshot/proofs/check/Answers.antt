@@ -1,15 +1,14 @@
 -- The last checks, where those before them pass.
-use Rattle.std.proofs.Common.{refl, sym, ap, ◌∙◌, ◌≤◌, ◌*◌, ℕ, length, arith}
-use Prim.Native.Nat.{min}
+use Rattle.std.proofs.Common.{sym, ap, ◌∙◌, ◌≤◌, ◌*◌, ℕ, length, arith}
 use Rattle.index.specs.Index.{column_width}
-use Rattle.snapshot.proofs.Chained.{last_checks}
+use Rattle.snapshot.proofs.Chained.{touched_is}
 use Rattle.snapshot.proofs.check.Goals as goal
 
 pub returns : goal.returns
 returns c =
     let a = c.args in
-    let few : a.system.rank ≤ min a.system.rows a.system.atoms = omega (arith, c.if-system-min.false, c.min.ensures) in
     let room : a.system.atoms * column_width a.system.rank ≤ length a.index.now =
     omega (arith, c.if-index-system.false, ap (λ (w : ℕ). a.system.atoms * w) c.column_width.ensures) in
     c.check_last.ensures
-    ∙ last_checks a.system a.index.now a.region a.known (sym c.overfull.ensures ∙ c.if-overfull.false) few room _ refl (sym c.in_ok-check.ensures)
+    ∙ touched_is a.system a.index.now a.region a.known (sym c.overfull.ensures ∙ c.if-overfull.false) (omega (arith, c.if-system-min.false, c.min.ensures)) room
+    (sym c.in_ok-check.ensures)

@@ -1,9 +1,13 @@
-use Rattle.std.proofs.Common.{ℕ, refl, sym, ap, ◌∙◌, subst}
-use Rattle.words.specs.Set.{set_of}
+use Rattle.std.proofs.Common.{refl, ap, ◌∙◌}
 use Rattle.region.specs.declared.Atoms.{Atoms}
-use Rattle.region.proofs.Visiting.{visiting_start, visiting_some, visiting_none}
-use Rattle.snapshot.proofs.Marking.{Marked, marks_there, marks_absent, marked_start, marked_next, marked_end}
+use Rattle.region.proofs.Visiting.{Given, visiting_start, visiting_some, visiting_none}
+use Rattle.snapshot.proofs.Marking.{marks_there, marks_absent, marked_start, marked_next, marked_end}
 use Rattle.snapshot.proofs.join_columns.Goals as goal
+use Rattle.snapshot.proofs.join_columns.Goals.{In-Some}
+
+-- the step of the visit
+given : (c : In-Some) → Given c.loop-a.a-iterator c.next.new.self c.args.atoms.now c.args.n c.in-Some.a
+given c = visiting_some _ _ _ _ c.loop-a.invariant.visits c.in-Some.a c.in-Some.ensures.steps
 
 pub loop-a-init : goal.loop-a-init
 loop-a-init c =
@@ -13,41 +17,34 @@ loop-a-init c =
       can_next = tt;
       is_finite = tt;
       visits = visiting_start _ _ _ _ same begun.mask begun.from begun.end;
-      marked =
-          subst (λ (n : ℕ). Marked (set_of c.args.atoms.now) c.args.width c.args.index.now c.args.rows.now n c.args.rows.now)
-          (sym (ap (λ (s : Atoms). s.from) same ∙ begun.from)) (marked_start (set_of c.args.atoms.now) c.args.width c.args.index.now c.args.rows.now);
+      marked = marked_start _ _ _ _ _ (ap (λ (s : Atoms). s.from) same ∙ begun.from);
     }
 
 pub loop-a-preserved : goal.loop-a-preserved
 loop-a-preserved c =
-    let step = visiting_some c.loop-a.a-iterator c.next.new.self _ _ c.loop-a.invariant.visits c.in-Some.a c.in-Some.ensures.steps in
+    let step = given (goal.at.loop-a-preserved c).In-Some in
     record {
       can_next = tt;
       is_finite = tt;
       visits = step.goes;
       marked =
-          subst (λ (n : ℕ). Marked (set_of c.args.atoms.now) c.args.width c.args.index.now c.args.rows.now n c.join.new.rows) (sym step.after)
-          (marked_next (set_of c.args.atoms.now) c.args.width c.args.index.now c.args.rows.now c.loop-a.a-iterator.from c.loop-a.rows c.loop-a.invariant.marked
-          c.in-Some.a step.reached step.passed step.found c.join.new.rows c.join.auto.rows
-          (marks_there c.args.width c.args.index.now c.in-Some.a c.loop-a.rows c.join.new.rows c.in-Some-column_at.column.now c.in-Some-column_at.ensures c.join.ensures));
+          marked_next step c.loop-a.invariant.marked c.join.auto.rows
+          (marks_there c.args.width c.args.index.now c.in-Some.a c.loop-a.rows c.join.new.rows c.in-Some-column_at.column.now c.in-Some-column_at.ensures c.join.ensures);
     }
 
 pub loop-a-preserved-in_default : goal.loop-a-preserved-in_default
 loop-a-preserved-in_default c =
-    let step = visiting_some c.loop-a.a-iterator c.next.new.self _ _ c.loop-a.invariant.visits c.in-Some.a c.in-Some.ensures.steps in
+    let step = given (goal.at.loop-a-preserved-in_default c).In-Some in
     record {
       can_next = tt;
       is_finite = tt;
       visits = step.goes;
       marked =
-          subst (λ (n : ℕ). Marked (set_of c.args.atoms.now) c.args.width c.args.index.now c.args.rows.now n c.loop-a.rows) (sym step.after)
-          (marked_next (set_of c.args.atoms.now) c.args.width c.args.index.now c.args.rows.now c.loop-a.a-iterator.from c.loop-a.rows c.loop-a.invariant.marked
-          c.in-Some.a step.reached step.passed step.found c.loop-a.rows refl
-          (marks_absent c.args.width c.args.index.now c.in-Some.a c.loop-a.rows c.in_default.ensures));
+          marked_next step c.loop-a.invariant.marked refl
+          (marks_absent c.args.width c.args.index.now c.in-Some.a c.loop-a.rows c.in_default.ensures);
     }
 
 pub returns : goal.returns
 returns c =
     let at = c.loop-a.invariant in
-    marked_end (set_of c.args.atoms.now) c.args.width c.args.index.now c.args.rows.now c.loop-a.a-iterator.from c.loop-a.rows at.marked c.args.n at.visits.below
-    (visiting_none c.loop-a.a-iterator c.next.new.self _ _ at.visits c.in-None.ensures.steps)
+    marked_end at.marked c.args.n at.visits.below (visiting_none _ c.next.new.self _ _ at.visits c.in-None.ensures.steps)

@@ -1,4 +1,4 @@
-use Rattle.std.proofs.Common.{◌≡◌, ◌^◌, ◌<◌, eqb, sym, ap, ap₂, ◌∙◌, length, rules, arith}
+use Rattle.std.proofs.Common.{◌≡◌, ◌<◌, sym, ◌∙◌, length, rules, arith}
 use Rattle.std.proofs.Math.Seq.{length-take-le, get_or-take}
 use Rattle.hull.specs.Propose.{limit}
 use Rattle.hull.proofs.Turns.{one_shl}
@@ -27,10 +27,4 @@ loop-free-preserved c =
     ]
 
 pub returns : goal.returns
-returns c =
-    let s = c.args.self.now in
-    let eight : length s.pivots ≡ 8 = search rules in
-    let all = length-take-le c.args.k s.pivots (omega arith) in
-    let filed = filed_all s.anchor s.pivots c.args.k _ _ _ c.loop-free.invariant.0 (omega arith) in
-    ap (λ n. record { equations = c.loop-free.equations; count = c.loop-free.count; exact = eqb s.allowed n }) (one_shl 64 s.rank (omega arith))
-    ∙ ap₂ (λ es n. record { equations = es; count = n; exact = eqb s.allowed (2 ^ s.rank) }) filed.0 filed.1
+returns c = grind (arith, length-take-le, one_shl 64 c.args.self.now.rank, filed_all _ _ _ _ _ _ c.loop-free.invariant.0)

@@ -1,19 +1,17 @@
 -- What the two shared checks tell, where those before them pass.
-use Rattle.std.proofs.Common.{rules, ◌≡◌, sym, ap, ◌∙◌, ◌≤◌, ◌*◌, ℕ, Bool, false, length, arith, Ok, Err}
+use Rattle.std.proofs.Common.{rules, ◌≡◌, sym, ◌∙◌, ◌≤◌, ◌*◌, ℕ, false, length, arith, Ok, Err}
 use Prim.Native.Nat.{min}
-use mathlib.Core.Bool.{cond, not, ◌&&◌}
 use borrow.Author.Tests.{ltb-false, le-ltb}
 use lib.Dec.{ltb}
 use Rattle.refusal.specs.declared.Refusal.{Refusal}
-use Rattle.refusal.specs.declared.Refusal.TheVariants.{Index, Unequal, Missing}
 use Rattle.std.proofs.lemmas.Bool.{or_parts}
 use Rattle.index.specs.Index.{column_width}
 use Rattle.parity.specs.declared.System.{System}
 use Rattle.region.specs.declared.Region.{Region}
-use Rattle.snapshot.specs.Knowledge.{overfull_by, unequal, missing}
+use Rattle.snapshot.specs.Knowledge.{overfull_by}
 use Rattle.snapshot.specs.Touch.{last_check}
 use Rattle.snapshot.specs.declared.Snapshot.{Snapshot}
-use Rattle.snapshot.proofs.Chained.{over}
+use Rattle.snapshot.proofs.Chained.{last_is}
 use Rattle.inspect.specs.Inspect.{Filled, filled, lists_short, inspect_check}
 use Rattle.inspect.specs.Lent.{lent_check}
 use Rattle.inspect.proofs.Lent.{lent_passed, lent_failed}
@@ -30,8 +28,7 @@ module _ (s : System) (l : Filled) (r : Region) (known : Snapshot) (atoms values
   passes : lent_check s l.rows l.constants l.basis r ≡ Ok tt → last_check s l.index r known ≡ inspect_check s l r known atoms values
   unfolding inspect_check
   passes e =
-      ap (λ (b : Bool). cond (not s.refuted && b) (Err Index) (cond (unequal s r known) (Err Unequal) (cond (missing r known) (Err Missing) (Ok (tt {0})))))
-      (over s l.index r known full few room.1)
+      last_is s l.index r known full few room.1
       ∙ sym (simp (full, le-ltb (min s.rows s.atoms) s.rank few) (lent_passed s l.rows l.constants l.basis r room.0 e _ lists _))
 
   fails : (e : Refusal) → lent_check s l.rows l.constants l.basis r ≡ Err e → inspect_check s l r known atoms values ≡ Err e
@@ -43,15 +40,13 @@ module _ (s : System) (l : Filled) (r : Region) (known : Snapshot) (atoms values
 pub returns-in_err-check_lent : goal.returns-in_err-check_lent
 returns-in_err-check_lent c =
     let a = c.args in
-    let few : a.system.rank ≤ min a.system.rows a.system.atoms = omega (arith, c.if-system-min.false, c.min.ensures) in
-    let told = fails a.system (filled a.rows.now a.constants.now a.basis.now a.index.now) a.region a.known a.atoms a.values (sym c.overfull.ensures ∙ c.if-overfull.false) few
-    (sym c.lists_short.ensures ∙ c.if-lists_short.false) _ (sym c.in_err-check_lent.ensures) in
+    let told = fails a.system (filled a.rows.now a.constants.now a.basis.now a.index.now) a.region a.known a.atoms a.values (sym c.overfull.ensures ∙ c.if-overfull.false)
+    (omega (arith, c.if-system-min.false, c.min.ensures)) (sym c.lists_short.ensures ∙ c.if-lists_short.false) _ (sym c.in_err-check_lent.ensures) in
     search rules
 
 pub returns : goal.returns
 returns c =
     let a = c.args in
-    let few : a.system.rank ≤ min a.system.rows a.system.atoms = omega (arith, c.if-system-min.false, c.min.ensures) in
     c.check_last.ensures
-    ∙ passes a.system (filled a.rows.now a.constants.now a.basis.now a.index.now) a.region a.known a.atoms a.values (sym c.overfull.ensures ∙ c.if-overfull.false) few
-    (sym c.lists_short.ensures ∙ c.if-lists_short.false) (sym c.in_ok-check_lent.ensures)
+    ∙ passes a.system (filled a.rows.now a.constants.now a.basis.now a.index.now) a.region a.known a.atoms a.values (sym c.overfull.ensures ∙ c.if-overfull.false)
+    (omega (arith, c.if-system-min.false, c.min.ensures)) (sym c.lists_short.ensures ∙ c.if-lists_short.false) (sym c.in_ok-check_lent.ensures)

@@ -16,13 +16,7 @@ unwrap-hull-requires c =
 
 pub overflow_add-self : goal.overflow_add-self
 overflow_add-self c =
-    let t = c.args.self.now in
-    let at = c.args.at in
-    omega (
-      arith,
-      c.requires.room.constants,
-      count_is at.file.now t.atoms at.offset t.next t.words.now t.constants.now c.requires.few c.requires.rising c.requires.room c.unwrap-hull.result (sym c.table.ensures ∙ c.unwrap-hull.ensures),
-    )
+    omega (arith, c.requires.room.constants, count_is _ _ _ _ _ _ c.requires.few c.requires.rising c.requires.room _ (sym c.table.ensures ∙ c.unwrap-hull.ensures))
 
 pub returns : goal.returns
 returns c =
@@ -36,8 +30,8 @@ returns c =
       same_words = refl;
       same_constants = refl;
       atoms = refl;
-      loaded = table_loaded at.file.now t.atoms at.offset t.next t.words.now t.constants.now c.requires.few c.requires.rising c.requires.room h (sym c.table.ensures ∙ c.unwrap-hull.ensures)
-          c.write.result c.write.new.rows c.write.new.constants
+      loaded = table_loaded _ _ _ _ _ _ c.requires.few c.requires.rising c.requires.room _ (sym c.table.ensures ∙ c.unwrap-hull.ensures)
+          _ _ _
           (c.write.ensures.done ∙ ap₂ (λ (w : ℕ) (l : List ℕ). writable w t.words.now t.constants.now h l first) c.width.ensures names)
           (c.write.ensures.words ∙ ap₂ (λ (w : ℕ) (l : List ℕ). cond c.write.result (written_words w t.words.now es l first) t.words.now) c.width.ensures names)
           c.write.ensures.constants;

@@ -25,25 +25,18 @@ loop-row-init c =
 
 pub enter_row-incidences-requires-clause-reaches : goal.enter_row-incidences-requires-clause-reaches
 enter_row-incidences-requires-clause-reaches c =
-    let b = c.args.basis.now in
-    let l = c.loop-row in
     let row = given (goal.at.enter_row-incidences-requires-clause-reaches c).In-Some in
-    rw row.row.words
-    (ordinal_reaches b.atoms b.rank c.args.stride b.rows.now b.constants.now b.entries.now l.index l.incidences l.row-iterator.next b.named row.below l.invariant.entered)
+    rw row.row.words (ordinal_reaches c.args.basis.now.named row.below c.loop-row.invariant.entered)
 
 pub overflow_add-incidences : goal.overflow_add-incidences
 overflow_add-incidences c =
     let b = c.args.basis.now in
-    let l = c.loop-row in
     let row = given (goal.at.overflow_add-incidences c).In-Some in
     let count = rw row.row.words at c.enter_row-incidences.ensures.count in
-    let few = ordinal_few b.atoms b.rank c.args.stride b.rows.now b.constants.now b.entries.now l.index l.incidences l.row-iterator.next b.named row.below l.invariant.entered in
-    omega (arith, count, few, l.invariant.entered.few, row.below, b.named.ranked)
+    omega (arith, count, ordinal_few b.named row.below c.loop-row.invariant.entered, c.loop-row.invariant.entered.few, row.below, b.named.ranked)
 
 pub loop-row-preserved : goal.loop-row-preserved
 loop-row-preserved c =
-    let b = c.args.basis.now in
-    let l = c.loop-row in
     let entered = c.enter_row-incidences in
     let row = given (goal.at.loop-row-preserved c).In-Some in
     record {
@@ -52,9 +45,8 @@ loop-row-preserved c =
       ordered = row.goes;
       entered =
           rw row.after
-          (upto_next b.atoms b.rank c.args.stride b.rows.now b.constants.now b.entries.now l.index l.incidences l.row-iterator.next b.named row.below l.invariant.entered
-          entered.new.index entered.auto.index (λ i. (c.type_inv.index i).fits)
-          (rw (row.row.words, ordinal_mark c.locate.result c.in-Some.row.ordinal.0 c.locate.ensures, row.row.ordinal) at entered.ensures.index) entered.result
+          (upto_next c.args.basis.now.named row.below c.loop-row.invariant.entered entered.auto.index (λ i. (c.type_inv.index i).fits)
+          (rw (row.row.words, ordinal_mark c.locate.result c.in-Some.row.ordinal.0 c.locate.ensures, row.row.ordinal) at entered.ensures.index)
           (rw row.row.words at entered.ensures.count));
     }
 
@@ -63,5 +55,5 @@ returns-clause-index c =
     let b = c.args.basis.now in
     let l = c.loop-row in
     let all = ordered_none l.row-iterator c.next.new.self b l.invariant.ordered c.in-None.ensures.steps in
-    upto_words b.atoms c.args.stride b.rows.now b.entries.now l.index l.incidences b.rank
+    upto_words
     (subst (Upto b.atoms c.args.stride b.rows.now b.entries.now l.index l.incidences) all l.invariant.entered) b.constants.now

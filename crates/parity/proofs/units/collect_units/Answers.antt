@@ -9,9 +9,6 @@ given c = ordered_some c.loop-row.row-iterator c.next.new.self c.args.basis.now 
 
 pub loop-row-preserved : goal.loop-row-preserved
 loop-row-preserved c =
-    let a = c.args in
-    let b = a.basis.now in
-    let l = c.loop-row in
     let row = given (goal.at.loop-row-preserved c).In-Some in
     record {
       can_next = tt;
@@ -19,15 +16,12 @@ loop-row-preserved c =
       ordered = row.goes;
       collected =
           rw row.after
-          (collected_other b.atoms b.rank b.rows.now b.constants.now b.entries.now a.atoms.now a.values.now l.atoms l.values l.units l.row-iterator.next b.named row.below c.requires.atoms
-          c.requires.values l.invariant.collected (rw (row.row.words, row.row.constant) at c.in_default.ensures));
+          (collected_other c.args.basis.now.named row.below c.requires.atoms c.requires.values c.loop-row.invariant.collected
+          (rw (row.row.words, row.row.constant) at c.in_default.ensures));
     }
 
 pub loop-row-preserved-in-Some-unit : goal.loop-row-preserved-in-Some-unit
 loop-row-preserved-in-Some-unit c =
-    let a = c.args in
-    let b = a.basis.now in
-    let l = c.loop-row in
     let row = given (goal.at.loop-row-preserved-in-Some-unit c).In-Some in
     record {
       can_next = tt;
@@ -35,6 +29,6 @@ loop-row-preserved-in-Some-unit c =
       ordered = row.goes;
       collected =
           rw row.after
-          (collected_unit b.atoms b.rank b.rows.now b.constants.now b.entries.now a.atoms.now a.values.now l.atoms l.values l.units l.row-iterator.next b.named row.below c.requires.atoms
-          c.requires.values l.invariant.collected c.in-Some-unit.atom c.in-Some-unit.value (rw (row.row.words, row.row.constant) at c.in-Some-unit.ensures));
+          (collected_unit c.args.basis.now.named row.below c.requires.atoms c.requires.values c.loop-row.invariant.collected
+          (rw (row.row.words, row.row.constant) at c.in-Some-unit.ensures));
     }

@@ -1,26 +1,20 @@
 -- `eliminate_with`: what `echelon` answers of the rows in memory is what is told of the basis rows.
+use Rattle.probe.specs.Steps.{Room}
 use Rattle.probe.proofs.Opening.{room_kept}
 use Rattle.probe.proofs.Eliminating.{never_refused, answered}
 use Rattle.probe.proofs.eliminate.eliminate_with.Goals as goal
+use Rattle.probe.proofs.eliminate.eliminate_with.Goals.{After-substitute_all}
+
+room : (c : After-substitute_all) → Room c.args.basis.now.atoms c.args.basis.now.rank c.substitute_all.new.left c.substitute_all.new.constants
+room c = room_kept c.requires.room c.substitute_all.auto.left c.substitute_all.auto.constants
 
 pub unwrap-done-requires : goal.unwrap-done-requires
 unwrap-done-requires c =
-    let a = c.args in
-    let b = a.basis.now in
-    let wrote = c.substitute_all in
-    let room = room_kept b.atoms b.rank a.left.now a.constants.now wrote.new.left wrote.new.constants c.requires.room wrote.auto.left wrote.auto.constants in
-    let last = c.eliminate.new in
-    never_refused b.atoms b.rank a.masks.now.held a.masks.now.free b.rows.now b.constants.now b.entries.now wrote.new.left wrote.new.constants a.pivots.now b.few b.named room c.requires.pivots
-    wrote.ensures c.eliminate.result last.rows last.constants last.basis c.eliminate.ensures
+    let b = c.args.basis.now in
+    never_refused c.args.pivots.now b.few b.named (room (goal.at.unwrap-done-requires c).After-substitute_all) c.requires.pivots c.substitute_all.ensures _ _ _ _ c.eliminate.ensures
 
 pub returns : goal.returns
 returns c =
-    let a = c.args in
-    let b = a.basis.now in
-    let m = a.masks.now in
-    let wrote = c.substitute_all in
-    let room = room_kept b.atoms b.rank a.left.now a.constants.now wrote.new.left wrote.new.constants c.requires.room wrote.auto.left wrote.auto.constants in
-    let last = c.eliminate.new in
-    answered b.atoms b.rank m.held m.free b.rows.now b.constants.now b.entries.now wrote.new.left wrote.new.constants a.pivots.now b.few b.named room c.requires.pivots
-    wrote.ensures c.unwrap-done.result last.rows last.constants last.basis
-    (rw (← c.unwrap-done.ensures) c.eliminate.ensures)
+    let b = c.args.basis.now in
+    answered c.args.pivots.now b.few b.named (room (goal.at.returns c).After-substitute_all) c.requires.pivots c.substitute_all.ensures _ _ _ _
+    (rw c.unwrap-done.ensures at c.eliminate.ensures)

@@ -9,18 +9,16 @@ given c = ordered_some c.loop-row.row-iterator c.next.new.self c.args.basis.now 
 
 pub loop-row-preserved : goal.loop-row-preserved
 loop-row-preserved c =
-    let a = c.args in
-    let b = a.basis.now in
-    let m = a.masks.now in
+    let b = c.args.basis.now in
+    let m = c.args.masks.now in
     let l = c.loop-row in
     let row = given (goal.at.loop-row-preserved c).In-Some in
     let split = c.split-flips.ensures in
-    let room = room_kept b.atoms b.rank a.left.now a.constants.now l.left l.constants c.requires l.auto.left l.auto.constants in
     record {
       can_next = tt;
       is_finite = tt;
       ordered = row.goes;
       opened =
           rw (row.after, c.width-width.ensures, split.left, split.parity, row.row.words, row.row.constant, row.row.ordinal, part_put)
-          (opened_next b.atoms b.rank m.held m.free b.rows.now b.constants.now b.entries.now l.left l.constants l.row-iterator.next b.named row.below split.wide room l.invariant.opened);
+          (opened_next b.atoms b.rank m.held m.free b.rows.now b.constants.now b.entries.now l.left l.constants l.row-iterator.next b.named row.below split.wide (room_kept c.requires l.auto.left l.auto.constants) l.invariant.opened);
     }
