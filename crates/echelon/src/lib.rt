@@ -27,8 +27,9 @@ pub struct Eliminated {
     pub refuted: bool,
 }
 
-// Reduces the rows in order, with a directory for N atoms. Inlined for both sizes, the compiled code kept less in registers. (By number: a row is
-// reduced by rows before it in the same memory, and the basis is a lent list whose next place `rank` says.)
+// Reduces the rows in order, with a directory for N atoms. The first rows, as long as each is left as it is, have a loop of their own, which keeps all it
+// needs in registers: in a probe that adds no row these are all. Inlined for both sizes, the compiled code kept less there. (By number: a row is reduced by
+// rows before it in the same memory, and the basis is a lent list whose next place `rank` says.)
 #[inline(never)]
 fn eliminate_rows<const N: usize>(
     shape: Shape,
@@ -51,7 +52,15 @@ fn eliminate_rows<const N: usize>(
     let mut directory = Directory::<N>::empty();
     let mut rank = 0;
     let mut additions = 0;
-    for t in 0..m {
+    for s in 0..m {
+        let Some(pivot) = rows.left_as_is(Source(s), &directory) else {
+            break;
+        };
+        directory.enter(pivot, Source(s));
+        basis[s] = s;
+        rank += 1;
+    }
+    for t in rank..m {
         let row = rows.reduce(Source(t), &directory);
         additions += row.additions;
         match row.pivot {

@@ -1,6 +1,6 @@
 // One row reduced: "while a row has a lowest atom whose pivot is an earlier row, that row is added". The word under work stays in a local,
 // and only later words are added in memory.
-ghost use Rattle.std.specs.Prelude.{◌≡◌, ◌==◌, not, ◌+◌, ◌*◌, ◌≤◌, ◌<◌, length, position, slice_index};
+ghost use Rattle.std.specs.Prelude.{◌≡◌, Some, ◌==◌, not, ◌+◌, ◌*◌, ◌≤◌, ◌<◌, length, position, slice_index};
 ghost use Rattle.std.specs.Int.Count.{count_trailing_zeros};
 ghost use Rattle.rows.specs.Flat.{row};
 ghost use Rattle.echelon.specs.Steps.{added_from, head_of, CleanRow, EmptyBefore, Listed, SameRows, ReducesWord, ReducesRow};
@@ -106,6 +106,39 @@ impl Rows<'_> {
         LeftWord { word, additions }
     }
 
+    // The pivot that a row is as it stands, whose first word that is not empty is known: its lowest atom has no pivot among the earlier rows.
+    fn pivot_at<const N: usize>(
+        &self,
+        number: Source,
+        first: usize,
+        directory: &Directory<N>,
+    ) -> Option<NewPivot>
+        requires clean { CleanRow self.now number.0 }
+        requires first { Some first ≡ position (λ word. not (word == 0)) (row self.now.shape.width self.now.words.now number.0) }
+        requires listed { Listed self.now number.0 directory.now.pivots }
+        ensures { (p : NewPivot) → result ≡ Some p → ReducesRow self.now self.now number.0 (Some p) 0 }
+    {
+        let word = self.words[number.0 * self.shape.width + first];
+        match directory.pivot_of(first, word) {
+            Some(_) => None,
+            None => Some(new_pivot(first, word)),
+        }
+    }
+
+    // The pivot that a row is as it stands, if it is one.
+    pub fn left_as_is<const N: usize>(
+        &self,
+        number: Source,
+        directory: &Directory<N>,
+    ) -> Option<NewPivot>
+        requires clean { CleanRow self.now number.0 }
+        requires listed { Listed self.now number.0 directory.now.pivots }
+        ensures { (p : NewPivot) → result ≡ Some p → ReducesRow self.now self.now number.0 (Some p) 0 }
+    {
+        let first = self.first_word(number)?;
+        self.pivot_at(number, first, directory)
+    }
+
     // Reduces a row until its lowest atom has no pivot among the earlier rows, or it is empty. Where it has none from the start, nothing is
     // written. (By number: what is reduced is word i of a row among all rows.)
     pub fn reduce<const N: usize>(&mut self, number: Source, directory: &Directory<N>) -> LeftRow
@@ -120,13 +153,12 @@ impl Rows<'_> {
                 additions: 0,
             };
         };
-        let word = self.words[number.0 * self.shape.width + first];
-        let Some(_) = directory.pivot_of(first, word) else {
+        if let Some(pivot) = self.pivot_at(number, first, directory) {
             return LeftRow {
-                pivot: Some(new_pivot(first, word)),
+                pivot: Some(pivot),
                 additions: 0,
             };
-        };
+        }
         let mut additions = 0;
         for i in first..self.shape.width {
             let left = self.reduce_word(number, i, directory);

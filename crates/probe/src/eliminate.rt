@@ -70,7 +70,9 @@ fn eliminate_with(
     }
 }
 
-// The same in memory of its own, for so many words and rows: three arrays, which `echelon` is lent apart.
+// The same in memory of its own, for so many words and rows: three arrays, which `echelon` is lent apart. (Not inlined: a probe that needs the least
+// memory would lay out the most.)
+#[inline(never)]
 fn eliminate_in<const WORDS: usize, const ROWS: usize>(basis: &Basis, masks: &Masks) -> Eliminated
     requires words { basis.now.rank * width_of basis.now.atoms ≤ WORDS }
     requires rows { basis.now.rank ≤ ROWS }
@@ -93,8 +95,12 @@ pub fn eliminate(basis: &Basis, masks: &Masks) -> Eliminated
     if basis.atoms <= 64 {
         return eliminate_in::<64, 64>(basis, masks);
     }
-    if basis.rank * rows::width(basis.atoms) <= 512 {
+    let words = basis.rank * rows::width(basis.atoms);
+    if words <= 512 {
         return eliminate_in::<512, 512>(basis, masks);
+    }
+    if words <= 1024 {
+        return eliminate_in::<1024, 512>(basis, masks);
     }
     eliminate_in::<4096, 512>(basis, masks)
 }

@@ -15,14 +15,6 @@ returns-in_default-clause-left g c =
     let r = c.args.self.now in
     finished_empty (reduced_start r.shape.width c.requires.clean (first_none c.requires.clean c.in_default.ensures)) (omega arith)
 
-pub returns-in_default-pivot_of-clause-left : goal.returns-in_default-pivot_of-clause-left
-returns-in_default-pivot_of-clause-left g c =
-    let r = c.args.self.now in
-    let first = first_some c.requires.clean c.in-Some.ensures in
-    finished_pivot (reduced_start c.in-Some.first c.requires.clean first.below) c.requires.listed first.inside
-    (sym (row_word r.shape.width c.args.number.0 r.words.now c.in-Some.first first.inside)) (omega arith) first.some
-    c.in_default-pivot_of.ensures c.new_pivot.ensures.head c.new_pivot.ensures.lowest
-
 pub loop-i-init : goal.loop-i-init
 loop-i-init g c = (search rules, reduced_start c.in-Some.first c.requires.clean (first_some c.requires.clean c.in-Some.ensures).below)
 
@@ -50,7 +42,7 @@ pub returns-then-left-ne0-clause-left : goal.returns-then-left-ne0-clause-left
 returns-then-left-ne0-clause-left g c =
     let here = (goal.at.returns-then-left-ne0-clause-left g c).After-reduce_word-left in
     finished_pivot (joined g here) c.requires.listed (omega arith) (word g here) (omega arith) (omega (arith, c.if-left-ne0.true))
-    c.reduce_word-left.ensures.done c.new_pivot-then-left-ne0.ensures.head c.new_pivot-then-left-ne0.ensures.lowest
+    c.reduce_word-left.ensures.done c.new_pivot.ensures.head c.new_pivot.ensures.lowest
 
 pub loop-i-preserved : goal.loop-i-preserved
 loop-i-preserved g c =
