@@ -144,8 +144,7 @@ impl Basis {
 }
 
 // Whether a pattern is forbidden. With `words::contains` in its place, which asks at each pattern whether the table has that word, `propose` of 8 atoms
-// took a quarter longer, timed when this form took 0.81 of the Rust's time (docs/PERFORMANCE.md, the first table): the other would have taken all of
-// it.
+// took a quarter longer, timed when this form took 0.81 of the Rust's time, so that the other would have taken all of it.
 fn is_forbidden(forbidden: &[u64], pattern: usize) -> bool
     requires { pattern / 64 < length forbidden.now }
     ensures { result ≡ forbids forbidden.now pattern }

@@ -2,6 +2,7 @@
 ghost use Rattle.records.specs.Promises.{FileFit, FileWithin, RowsCounted};
 
 // Every row, table and decision of a file that is taken is fit.
+#[tactic(auto, using(crate::proofs::Whole::file_fit))]
 pub fn file_fit()
     ensures { FileFit }
 {}

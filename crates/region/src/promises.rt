@@ -2,6 +2,7 @@
 ghost use Rattle.region.specs.Promises.{AcceptedStands, OthersStay, DecisionsStay, RegionHolds, DecisionsFix};
 
 // "hand back the region with that decision made"
+#[tactic(auto, using(crate::proofs::Standing::accepted_stands))]
 pub fn accepted_stands()
     ensures { AcceptedStands }
 {}
@@ -12,6 +13,7 @@ pub fn others_stay()
 {}
 
 // the region only gains decisions
+#[tactic(auto, using(crate::proofs::Standing::decisions_stay))]
 pub fn decisions_stay()
     ensures { DecisionsStay }
 {}

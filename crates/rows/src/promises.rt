@@ -47,6 +47,7 @@ pub fn decisions_leave()
 {}
 
 // "k counts the rows kept"; the count behind demand 3, that "the ways to settle all measures number exactly 2^(u − k)"
+#[tactic(auto, using(crate::proofs::Triangle::triangular_leaves))]
 pub fn triangular_leaves()
     ensures { TriangularLeaves }
 {}

@@ -2,6 +2,7 @@
 ghost use Rattle.snapshot.specs.Promises.{TouchedExact};
 
 // with an index from preparation the touched rows are those that have an atom decided since
+#[tactic(auto, using(crate::proofs::Touches::touched_exact))]
 pub fn touched_exact()
     ensures { TouchedExact }
 {}
