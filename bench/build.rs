@@ -1,4 +1,4 @@
-//! Compiles plain.c with cc -O2, and echelonize.c where M4RI is at hand.
+//! Compiles plain.c for the processor and at the level that the library is built for, and echelonize.c where M4RI is at hand.
 use std::path::PathBuf;
 use std::process::Command;
 
@@ -6,7 +6,7 @@ fn compile(source: &str) -> Option<PathBuf> {
     println!("cargo::rerun-if-changed={source}");
     let out = PathBuf::from(std::env::var_os("OUT_DIR").expect("cargo sets it"));
     let object = out.join(source).with_extension("o");
-    let done = Command::new("cc").args(["-std=c11", "-O2", "-Wall", "-Wextra", "-c", source, "-o"]).arg(&object).output().ok()?;
+    let done = Command::new("cc").args(["-std=c11", "-O2", "-march=x86-64-v2", "-Wall", "-Wextra", "-c", source, "-o"]).arg(&object).output().ok()?;
     if !done.status.success() {
         eprintln!("{}", String::from_utf8_lossy(&done.stderr));
         return None;

@@ -66,13 +66,39 @@ plain_prepared plain_prepare(size_t n, size_t m, uint64_t *restrict rows, uint8_
     return told;
 }
 
-plain_probed plain_probe(size_t n, size_t rank, const uint64_t *rows, const uint8_t *constants, const size_t *basis, const uint64_t *held,
-                         const uint64_t *cut) {
-    size_t width = (n + 63) / 64, pivots[512] = {0};
+/* A row of one word; the pivots stand by their lowest atoms. */
+typedef struct {
+    uint64_t word;
+    uint8_t value;
+} narrow_row;
+
+static plain_probed narrow_probe(plain_probed told, size_t rank, const uint64_t *rows, const uint8_t *constants, const size_t *basis,
+                                 uint64_t held, uint64_t cut, narrow_row *pivots) {
+    for (size_t j = 0; j < rank; j++) {
+        narrow_row left = {rows[basis[j]], constants[basis[j]]};
+        left.value ^= (uint8_t)(__builtin_popcountll(left.word & held) & 1);
+        left.word &= ~(held | cut);
+        while (left.word) {
+            narrow_row *pivot = pivots + __builtin_ctzll(left.word);
+            if (!pivot->word) {
+                *pivot = left;
+                told.kept++;
+                break;
+            }
+            left.word ^= pivot->word;
+            left.value ^= pivot->value;
+        }
+        if (!left.word && left.value) return told;
+    }
+    told.yes = 1;
+    return told;
+}
+
+static plain_probed wide_probe(plain_probed told, size_t width, size_t rank, const uint64_t *rows, const uint8_t *constants,
+                               const size_t *basis, const uint64_t *held, const uint64_t *cut) {
+    size_t pivots[512] = {0};
     uint64_t kept[512][8];
     uint8_t values[512];
-    plain_probed told = {.undecided = n};
-    for (size_t i = 0; i < width; i++) told.undecided -= (size_t)__builtin_popcountll(held[i] | cut[i]);
     for (size_t j = 0; j < rank; j++) {
         const uint64_t *words = rows + basis[j] * width;
         uint64_t *row = kept[told.kept], odd = 0;
@@ -99,6 +125,22 @@ plain_probed plain_probe(size_t n, size_t rank, const uint64_t *rows, const uint
     }
     told.yes = 1;
     return told;
+}
+
+plain_probed plain_probe(size_t n, size_t rank, const uint64_t *rows, const uint8_t *constants, const size_t *basis, const uint64_t *held,
+                         const uint64_t *cut) {
+    size_t width = (n + 63) / 64;
+    plain_probed told = {.undecided = n};
+    for (size_t i = 0; i < width; i++) told.undecided -= (size_t)__builtin_popcountll(held[i] | cut[i]);
+    if (n <= 8) {
+        narrow_row pivots[8] = {0};
+        return narrow_probe(told, rank, rows, constants, basis, held[0], cut[0], pivots);
+    }
+    if (n <= 64) {
+        narrow_row pivots[64] = {0};
+        return narrow_probe(told, rank, rows, constants, basis, held[0], cut[0], pivots);
+    }
+    return wide_probe(told, width, rank, rows, constants, basis, held, cut);
 }
 
 enum { LIMIT = 512, MASK_WORDS = 8 };

@@ -27,9 +27,9 @@ pub fn check_lent(
     rows: &[u64],
     constants: &[u8],
     basis: &[usize],
-    region: Region,
+    region: &Region,
 ) -> Result<(), Refusal>
-    ensures { result ≡ lent_check system rows.now constants.now basis.now region }
+    ensures { result ≡ lent_check system rows.now constants.now basis.now region.now }
 {
     fit::check_rows(system.atoms, system.rows, rows, constants)?;
     region.check()?;
@@ -63,6 +63,6 @@ pub fn check(
     if lists_short(system, basis.len(), index.len(), atoms, values) {
         return Err(Refusal::Short);
     }
-    check_lent(system, rows, constants, basis, region)?;
+    check_lent(system, rows, constants, basis, &region)?;
     known.check_last(system, index, region)
 }

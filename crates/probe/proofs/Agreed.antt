@@ -15,14 +15,12 @@ use Rattle.words.specs.Set.{odd}
 use Rattle.rows.specs.Row.{Row, Assignment, overlap, meets, meets_all}
 use Rattle.rows.specs.Count.{count}
 use Rattle.rows.specs.Decisions.{Decisions, agrees, undecided}
-use Rattle.rows.specs.Flat.{row_at}
 use Rattle.rows.proofs.Counting.{count_ext, count_none}
 use Rattle.rows.proofs.Plus.{xor_comm, xor_false}
 use Rattle.echelon.specs.Forward.{empty, reduced, joined, State, next}
 use Rattle.echelon.specs.Forward as echelon
-use Rattle.echelon.specs.Eliminate.{rows_to}
+use Rattle.echelon.specs.Promises.{Sized}
 use Rattle.echelon.proofs.Solutions.{meets_append, solutions_kept, sound_counts}
-use Rattle.echelon.proofs.Upto.{rows_sized}
 use Rattle.region.specs.Masks.{is_held, is_open}
 use Rattle.probe.specs.Elimination.{substituted, reduced_by, Kept, keeps, step, kept_from, eliminated}
 use Rattle.probe.specs.Steps.{told}
@@ -145,11 +143,24 @@ power_same i j e = go (ltb i j) (ltb j i) refl refl
     go false true f g = let z : ⊥ = omega (arith, e, pow-lt (ltb-true j i g)) in absurd z
     go false false f g = omega (arith, ltb-false i j f, ltb-false j i g)
 
--- rows in memory, the rows bs with the decided atoms taken out
-module _ (n : ℕ) (p : Decisions) (long : length p ≡ n) (w : ℕ) (ws cs : List ℕ) (bs : List Row) (d : Row)
-    (is : (j : ℕ) → j < length bs → row_at n w ws cs j ≡ substituted p (get_or bs j d)) where
+-- the first j rows that f numbers, the last first
+unfoldable pub numbered_to : (ℕ → Row) → ℕ → List Row
+numbered_to f zero = []
+numbered_to f (suc j) = f j ∷ numbered_to f j
+
+pub numbered_sized : (n : ℕ) (f : ℕ → Row) → ((j : ℕ) → length (f j).atoms ≡ n) → (j : ℕ) → Sized n (numbered_to f j)
+unfolding numbered_to
+numbered_sized n f wide zero = tt
+numbered_sized n f wide (suc j) = (wide j, numbered_sized n f wide j)
+
+-- rows of n atoms that are the rows bs with the decided atoms taken out
+module _ (n : ℕ) (p : Decisions) (long : length p ≡ n) (f : ℕ → Row) (wide : (j : ℕ) → length (f j).atoms ≡ n) (bs : List Row) (d : Row)
+    (is : (j : ℕ) → j < length bs → f j ≡ substituted p (get_or bs j d)) where
   abbrev taken : ℕ → List Row
-  taken j = rows_to n w ws cs j
+  taken j = numbered_to f j
+
+  sized : (j : ℕ) → Sized n (taken j)
+  sized j = numbered_sized n f wide j
 
   abbrev forward : ℕ → State
   forward j = echelon.eliminated n (taken j)
@@ -157,8 +168,8 @@ module _ (n : ℕ) (p : Decisions) (long : length p ≡ n) (w : ℕ) (ws cs : Li
   abbrev kept : ℕ → Kept
   kept j = eliminated p (take j bs)
 
-  forward_next : (j : ℕ) → forward (suc j) ≡ cond (forward j).refuted (forward j) (next (forward j) (reduced n (forward j).rows (row_at n w ws cs j)))
-  unfolding rows_to echelon.eliminated
+  forward_next : (j : ℕ) → forward (suc j) ≡ cond (forward j).refuted (forward j) (next (forward j) (reduced n (forward j).rows (f j)))
+  unfolding numbered_to echelon.eliminated
   forward_next j = refl
 
   kept_next : (j : ℕ) → j < length bs → kept (suc j) ≡ step p (kept j) (get_or bs j d)
@@ -167,7 +178,7 @@ module _ (n : ℕ) (p : Decisions) (long : length p ≡ n) (w : ℕ) (ws cs : Li
       ∙ from_one p (kept j) (get_or bs j d)
 
   same_met : (j : ℕ) → j ≤ length bs → (x : Assignment) → meets_all (taken j) x ≡ meets_all (map (substituted p) (take j bs)) x
-  unfolding rows_to
+  unfolding numbered_to
   same_met zero h x = refl
   same_met (suc j) h x =
       let r = substituted p (get_or bs j d) in
@@ -187,7 +198,7 @@ module _ (n : ℕ) (p : Decisions) (long : length p ≡ n) (w : ℕ) (ws cs : Li
 
     forward_sound : (forward j).refuted ≡ false → solutions ≡ 2 ^ (n - length (forward j).basis)
     unfolding solutions
-    forward_sound e = (sound_counts n (taken j) (rows_sized n w ws cs j)).1 e
+    forward_sound e = (sound_counts n (taken j) (sized j)).1 e
 
     forward_no : (forward j).refuted ≡ true → solutions ≡ 0
     unfolding solutions
@@ -210,10 +221,10 @@ module _ (n : ℕ) (p : Decisions) (long : length p ≡ n) (w : ℕ) (ws cs : Li
         let yes : (kept j).sound ≡ true = not-false (kept j).sound (sym same_answer ∙ e) in
         let left : n - length (forward j).basis ≡ n - length (kept j).rows =
         power_same _ _ (sym (forward_sound e) ∙ same_count ∙ sound_count n p long (take j bs) yes) in
-        omega (arith, left, (sound_counts n (taken j) (rows_sized n w ws cs j)).0, few n p long (take j bs))
+        omega (arith, left, (sound_counts n (taken j) (sized j)).0, few n p long (take j bs))
 
   none_yet : length (forward 0).basis ≡ length (kept 0).rows
-  unfolding rows_to kept_from echelon.eliminated
+  unfolding numbered_to kept_from echelon.eliminated
   none_yet = refl
 
   same_rank : (j : ℕ) → j ≤ length bs → length (forward j).basis ≡ length (kept j).rows
@@ -226,7 +237,7 @@ module _ (n : ℕ) (p : Decisions) (long : length p ≡ n) (w : ℕ) (ws cs : Li
       go true e before =
           let no : (kept (suc j)).sound ≡ false = not-true (kept (suc j)).sound (sym (same_answer (suc j) h) ∙ e) in
           let stays = step_no (kept j) (reduced_by (kept j).rows (substituted p (get_or bs j d))) (kept j).sound (sym (ap (λ (k : Kept). k.sound) (kept_next j h)) ∙ no) in
-          let no' = next_no n (forward j) (row_at n w ws cs j) (forward j).refuted (sym (ap (λ (st : State). st.refuted) (forward_next j)) ∙ e) in
+          let no' = next_no n (forward j) (f j) (forward j).refuted (sym (ap (λ (st : State). st.refuted) (forward_next j)) ∙ e) in
           ap length (ap (λ (st : State). st.basis) (forward_next j) ∙ no') ∙ before
           ∙ ap length (sym stays ∙ sym (ap (λ (k : Kept). k.rows) (kept_next j h)))
 

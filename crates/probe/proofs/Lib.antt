@@ -8,4 +8,6 @@ pub mod Counted
 pub mod Agreed
 pub mod Opening
 pub mod Eliminating
+pub mod Narrowing
+pub mod OneWord
 pub mod Independent

@@ -29,7 +29,8 @@ use Rattle.parity.specs.Named.{Legible, Named}
 use Rattle.inspect.proofs.Readings.{atoms_and}
 use Rattle.probe.specs.Elimination.{substituted}
 use Rattle.inspect.specs.Steps.{Masked}
-use Rattle.probe.specs.Steps.{Room, Opened}
+use Rattle.probe.specs.declared.narrow.NarrowRow.{NarrowRow}
+use Rattle.probe.specs.Steps.{Room, Opened, opened_row}
 
 -- ---- one row
 
@@ -91,12 +92,32 @@ part_put w t left r =
 
 -- ---- row after row
 
--- the open atoms of row s in words, and its constant flipped by each atom held.
-abbrev open_of : ℕ → (free ws : List ℕ) → ℕ → List ℕ
-open_of w free ws s = zip_with bit_and (row w ws s) free
+-- a basis row over the open atoms
+module _ {n s : ℕ} {ws cs : List ℕ} (fit : Legible n ws cs s) (held free : List ℕ) where
+  abbrev left_of : NarrowRow
+  left_of = opened_row held free (row (width_of n) ws s) (get_or cs s 0)
 
-abbrev flipped_of : ℕ → (held ws cs : List ℕ) → ℕ → ℕ
-flipped_of w held ws cs s = bit_xor (get_or cs s 0) (ones (bit_and (set_of (row w ws s)) (set_of held)) % 2)
+  abbrev own_atoms : ℕ
+  own_atoms = set_of (row (width_of n) ws s)
+
+  small_flips : ones (bit_and own_atoms (set_of held)) % 2 < 2
+  small_flips = mod-lt (ones (bit_and own_atoms (set_of held))) (omega arith)
+
+  pub opened_below : left_of.word < 2 ^ n
+  opened_below = lt_of_le_of_lt (and_le_l own_atoms (set_of free)) fit.below
+
+  pub opened_small : left_of.constant < 2
+  opened_small = xor_lt 1 (get_or cs s 0) (ones (bit_and own_atoms (set_of held)) % 2) fit.constant small_flips
+
+  pub opened_is : (p : Decisions) → Masked n p held free
+      → record { atoms = atoms_of n left_of.word; constant = eqb left_of.constant 1 } ≡ substituted p (row_at n (width_of n) ws cs s)
+  unfolding row_at
+  opened_is p m =
+      ap₂ (λ (l : List Bool) (c : Bool). record { atoms = l; constant = c })
+      (sym (atoms_and n own_atoms (set_of free)) ∙ ap (zip_with ◌&&◌ (atoms_of n own_atoms)) (sym m.open_are))
+      (constant_sum (get_or cs s 0) (ones (bit_and own_atoms (set_of held)) % 2) fit.constant small_flips
+      ∙ ap (xor (eqb (get_or cs s 0) 1))
+      (ap odd (sym (atoms_overlap n own_atoms (set_of held) fit.below)) ∙ ap (λ (l : List Bool). odd (overlap (atoms_of n own_atoms) l)) (sym m.held_are)))
 
 pub room_kept : {n rank : ℕ} {left cs left' cs' : List ℕ} → Room n rank left cs → length left' ≡ length left → length cs' ≡ length cs → Room n rank left' cs'
 room_kept room words constants = record { words = omega (arith, room.words); constants = omega (arith, room.constants) }
@@ -117,23 +138,17 @@ module _ (n rank : ℕ) (held free ws cs ps left cs' : List ℕ) (j : ℕ) (name
   abbrev s : ℕ
   s = get_or ps j 0
 
-  abbrev own : ℕ
-  own = set_of (row w ws s)
-
-  abbrev flips : ℕ
-  flips = ones (bit_and own (set_of held)) % 2
+  abbrev left_row : NarrowRow
+  left_row = opened_row held free (row w ws s) (get_or cs s 0)
 
   abbrev open_row : List ℕ
-  open_row = open_of w free ws s
+  open_row = zip_with bit_and (row w ws s) free
 
   abbrev left_next : List ℕ
   left_next = put w j left open_row
 
-  abbrev constant : ℕ
-  constant = flipped_of w held ws cs s
-
   abbrev cs_next : List ℕ
-  cs_next = set cs' j constant
+  cs_next = set cs' j left_row.constant
 
   few : length (row w ws s) ≤ length free
   few = omega (arith, row_length w ws s fit.words, fit.atoms)
@@ -141,26 +156,19 @@ module _ (n rank : ℕ) (held free ws cs ps left cs' : List ℕ) (j : ℕ) (name
   long : length open_row ≡ w
   long = common_length (row w ws s) free few ∙ row_length w ws s fit.words
 
-  row_is : set_of (row w left_next j) ≡ bit_and own (set_of free)
+  row_is : set_of (row w left_next j) ≡ left_row.word
   row_is = ap set_of (put_row w j left room open_row long) ∙ common_set 64 (row w ws s) free few
 
-  constant_is : get_or cs_next j 0 ≡ constant
-  constant_is = get_or-set_same cs' j constant 0 place
-
-  small : flips < 2
-  small = mod-lt (ones (bit_and own (set_of held))) (omega arith)
+  constant_is : get_or cs_next j 0 ≡ left_row.constant
+  constant_is = get_or-set_same cs' j left_row.constant 0 place
 
   only : OnlyRow w j left cs' left_next cs_next
-  only = put_only w j left room open_row long cs' constant
+  only = put_only w j left room open_row long cs' left_row.constant
 
-  opened_row : (p : Decisions) → Masked n p held free → row_at n w left_next cs_next j ≡ substituted p (row_at n w ws cs s)
+  opened_row_is : (p : Decisions) → Masked n p held free → row_at n w left_next cs_next j ≡ substituted p (row_at n w ws cs s)
   unfolding row_at
-  opened_row p m =
-      ap₂ (λ (l : List Bool) (c : Bool). record { atoms = l; constant = c })
-      (ap (atoms_of n) row_is ∙ sym (atoms_and n own (set_of free)) ∙ ap (zip_with ◌&&◌ (atoms_of n own)) (sym m.open_are))
-      (ap (λ (c : ℕ). eqb c 1) constant_is ∙ constant_sum (get_or cs s 0) flips fit.constant small
-      ∙ ap (xor (eqb (get_or cs s 0) 1))
-      (ap odd (sym (atoms_overlap n own (set_of held) fit.below)) ∙ ap (λ (l : List Bool). odd (overlap (atoms_of n own) l)) (sym m.held_are)))
+  opened_row_is p m =
+      ap₂ (λ (x c : ℕ). record { atoms = atoms_of n x; constant = eqb c 1 }) row_is constant_is ∙ opened_is fit held free p m
 
   pub opened_next : Opened n held free ws cs ps left cs' j → Opened n held free ws cs ps left_next cs_next (j + 1)
   opened_next o = record {
@@ -174,9 +182,9 @@ module _ (n rank : ℕ) (held free ws cs ps left cs' : List ℕ) (j : ℕ) (name
           × ((p : Decisions) → Masked n p held free → row_at n w left_next cs_next i ≡ substituted p (row_at n w ws cs (get_or ps i 0)))
       by i h true e =
           rw (eqb-true i j e) (
-            rw row_is (lt_of_le_of_lt (and_le_l own (set_of free)) fit.below),
-            rw constant_is (xor_lt 1 (get_or cs s 0) flips fit.constant small),
-            opened_row,
+            rw row_is (opened_below fit held free),
+            rw constant_is (opened_small fit held free),
+            opened_row_is,
           )
       by i h false e =
           let older : i < j = let ne = eqb-false i j e in omega arith in (

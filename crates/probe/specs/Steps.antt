@@ -1,5 +1,7 @@
 -- What the private functions of `probe` ask and leave, for their contracts alone: no reader has to believe it, since `probe` asks nothing.
-use Rattle.std.specs.Prelude.{ℕ, ◌*◌, ◌^◌, ◌≤◌, ◌<◌, ◌≡◌, length, get_or}
+use Rattle.std.specs.Prelude.{ℕ, ◌*◌, ◌%◌, ◌^◌, ◌≤◌, ◌<◌, ◌≡◌, cond, length, get_or, eqb}
+use Rattle.std.specs.Int.Bits.{bit_and, bit_xor}
+use Rattle.std.specs.Int.Count.{count_trailing_zeros, ones}
 use mathlib.Core.List.{List, map}
 use Rattle.words.specs.Set.{set_of}
 use Rattle.rows.specs.Row.{Row}
@@ -10,6 +12,7 @@ use Rattle.parity.specs.Basis.{rows_of}
 use Rattle.parity.specs.declared.basis.Basis.{Basis}
 use Rattle.probe.specs.Elimination.{substituted, eliminated, Kept}
 use Rattle.probe.specs.declared.eliminate.Eliminated.{Eliminated}
+use Rattle.probe.specs.declared.narrow.NarrowRow.{NarrowRow}
 use Rattle.inspect.specs.declared.Masks.{Masks}
 use Rattle.inspect.specs.Steps.{Masked}
 
@@ -28,6 +31,20 @@ pub record Opened (n : ℕ) (held free ws cs ps left cs' : List ℕ) (j : ℕ) :
   pub small : (i : ℕ) → i < j → get_or cs' i 0 < 2
   pub rows : (p : Decisions) → Masked n p held free → (i : ℕ) → i < j
       → row_at n (width_of n) left cs' i ≡ substituted p (row_at n (width_of n) ws cs (get_or ps i 0))
+
+-- The open atoms of a basis row that is one word, and its constant flipped by each atom held.
+abbrev pub opened_row : (held free words : List ℕ) → ℕ → NarrowRow
+opened_row held free words constant =
+    let own = set_of words in
+    record { word = bit_and own (set_of free); constant = bit_xor constant (ones (bit_and own (set_of held)) % 2) }
+
+-- An atom without a pivot has this one.
+abbrev pub no_row : NarrowRow
+no_row = record { word = 0; constant = 0 }
+
+-- The pivot of the lowest atom of a word.
+unfoldable pub pivot_at : List NarrowRow → ℕ → NarrowRow
+pivot_at pivots word = cond (eqb word 0) no_row (get_or pivots (count_trailing_zeros 64 word) no_row)
 
 -- What is told of the rows kept.
 abbrev pub told : Kept → Eliminated

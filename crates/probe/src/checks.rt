@@ -15,9 +15,9 @@ pub fn check(
     rows: &[u64],
     constants: &[u8],
     basis: &[usize],
-    region: Region,
+    region: &Region,
 ) -> Result<(), Refusal>
-    ensures { result ≡ probe_check system rows.now constants.now basis.now region }
+    ensures { result ≡ probe_check system rows.now constants.now basis.now region.now }
 {
     if system.atoms > LIMIT || system.rows > LIMIT || region.atoms > LIMIT {
         return Err(Refusal::Overfull);

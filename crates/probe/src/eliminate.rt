@@ -1,7 +1,8 @@
 // Elimination over the open atoms: "Basis rows in order, decided atoms taken out, each held one flipping the constant."
-// The rows are written into memory of the probe's own, and `echelon` eliminates them there. It stops at a lowest atom without a pivot, where
-// document 01 adds every row kept; as many rows are kept, and no is said at the same row (proofs/Agreed.antt).
-ghost use Rattle.std.specs.Prelude.{◌≡◌, Ok, ◌*◌, ◌%◌, ◌≤◌, min, length};
+// Rows of one word are reduced in a register (narrow.rt). Wider ones are written into memory of the probe's own, and `echelon` eliminates them there.
+// Both stop at a lowest atom without a pivot, where document 01 adds every row kept; as many rows are kept, and no is said at the same row
+// (proofs/Agreed.antt).
+ghost use Rattle.std.specs.Prelude.{◌≡◌, Ok, ◌*◌, ◌%◌, ◌≤◌, ◌<◌, min, length};
 ghost use mathlib.Core.List.{zip_with};
 ghost use Rattle.std.specs.Int.Bits.{bit_and};
 ghost use Rattle.std.specs.Int.Count.{ones};
@@ -9,6 +10,7 @@ ghost use Rattle.words.specs.Set.{set_of};
 ghost use Rattle.rows.specs.Flat.{width_of};
 ghost use Rattle.probe.specs.Steps.{Room, Opened, ToldOf};
 
+use crate::narrow;
 use inspect::Masks;
 use parity::{Basis, BasisRow};
 
@@ -85,22 +87,35 @@ fn eliminate_in<const WORDS: usize, const ROWS: usize>(basis: &Basis, masks: &Ma
     eliminate_with(basis, masks, &mut left, &mut constants, &mut pivots)
 }
 
-// The same in as much memory as the rows need, since it is cleared first.
-pub fn eliminate(basis: &Basis, masks: &Masks) -> Eliminated
-    ensures { ToldOf basis.now masks.now result }
+// The same in as much memory as the rows need, since it is cleared first. (Not inlined, and by value: where the rows are of one word, neither basis nor
+// masks are then written to memory.)
+#[inline(never)]
+fn eliminate_wide(basis: Basis, masks: Masks) -> Eliminated
+    requires { 64 < basis.atoms }
+    ensures { ToldOf basis.entry masks result }
 {
-    if basis.atoms <= 8 {
-        return eliminate_in::<8, 8>(basis, masks);
-    }
-    if basis.atoms <= 64 {
-        return eliminate_in::<64, 64>(basis, masks);
-    }
     let words = basis.rank * rows::width(basis.atoms);
+    if words <= 256 {
+        return eliminate_in::<256, 128>(&basis, &masks);
+    }
     if words <= 512 {
-        return eliminate_in::<512, 512>(basis, masks);
+        return eliminate_in::<512, 256>(&basis, &masks);
     }
     if words <= 1024 {
-        return eliminate_in::<1024, 512>(basis, masks);
+        return eliminate_in::<1024, 256>(&basis, &masks);
     }
-    eliminate_in::<4096, 512>(basis, masks)
+    eliminate_in::<4096, 512>(&basis, &masks)
+}
+
+// The basis rows over the open atoms, by one word where they have one.
+pub fn eliminate(basis: Basis, masks: Masks) -> Eliminated
+    ensures { ToldOf basis.entry masks result }
+{
+    if basis.atoms <= 8 {
+        return narrow::eliminate::<8>(&basis, &masks);
+    }
+    if basis.atoms <= 64 {
+        return narrow::eliminate::<64>(&basis, &masks);
+    }
+    eliminate_wide(basis, masks)
 }

@@ -16,6 +16,7 @@ use region::Region;
 
 mod checks;
 mod eliminate;
+mod narrow;
 pub mod promises;
 
 // What the probe answers: yes or no, u (the atoms neither held nor cut) and k (the rows kept). The counts stand on no as on yes, so a flag is
@@ -36,9 +37,9 @@ fn size(mask: &[u64], width: usize) -> usize
 }
 
 // "u counts atoms neither held nor cut." No mask has one past the words that the atoms take.
-fn open_count(region: Region) -> usize
-    requires { region_check region ≡ Ok tt }
-    ensures { result ≡ undecided (decisions region) }
+fn open_count(region: &Region) -> usize
+    requires { region_check region.now ≡ Ok tt }
+    ensures { result ≡ undecided (decisions region.now) }
 {
     let width = rows::width(region.atoms);
     let held = size(&region.held, width);
@@ -57,8 +58,8 @@ pub fn probe(
 ) -> Result<Probed, Refusal>
     ensures { result ≡ probe_of system rows.now constants.now basis.now region }
 {
-    checks::check(system, rows, constants, basis, region)?;
-    let undecided = open_count(region);
+    checks::check(system, rows, constants, basis, &region)?;
+    let undecided = open_count(&region);
     if system.refuted {
         return Ok(Probed {
             yes: false,
@@ -73,7 +74,7 @@ pub fn probe(
         constants,
         entries: basis,
     };
-    let left = eliminate::eliminate(&lent, &Masks::from(region));
+    let left = eliminate::eliminate(lent, Masks::from(region));
     Ok(Probed {
         yes: left.sound,
         undecided,

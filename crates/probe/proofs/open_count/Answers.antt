@@ -10,14 +10,14 @@ use Rattle.probe.proofs.open_count.Goals as goal
 use Rattle.probe.proofs.open_count.Goals.{After-width-width}
 
 few : (c : After-width-width) → c.width-width.result ≤ 8
-few c = omega (arith, c.width-width.ensures, (fitting c.args.region c.requires).few)
+few c = omega (arith, c.width-width.ensures, (fitting c.args.region.now c.requires).few)
 
-eight : (c : After-width-width) → (length c.args.region.held ≡ 8) × (length c.args.region.cut ≡ 8)
+eight : (c : After-width-width) → (length c.args.region.now.held ≡ 8) × (length c.args.region.now.cut ≡ 8)
 eight c = (search rules, search rules)
 
-all : (c : After-width-width) → let r = c.args.region in
+all : (c : After-width-width) → let r = c.args.region.now in
     undecided (decisions r) + ones (set_of (take c.width-width.result r.held)) + ones (set_of (take c.width-width.result r.cut)) ≡ r.atoms
-all c = tallied c.args.region (fitting c.args.region c.requires) (eight c).0 (eight c).1 c.width-width.result c.width-width.ensures
+all c = tallied c.args.region.now (fitting c.args.region.now c.requires) (eight c).0 (eight c).1 c.width-width.result c.width-width.ensures
 
 pub size-held-requires : goal.size-held-requires
 size-held-requires c = let here = (goal.at.size-held-requires c).After-width-width in (few here, omega (arith, few here, (eight here).0))

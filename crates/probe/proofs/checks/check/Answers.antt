@@ -34,15 +34,15 @@ module _ (s : System) (ws cs ps : List ℕ) (r : Region) (atoms : s.atoms ≤ 51
 pub returns-in_err-check_lent : goal.returns-in_err-check_lent
 returns-in_err-check_lent c =
     let a = c.args in
-    let told = fails a.system a.rows.now a.constants.now a.basis.now a.region c.if-system-gt-LIMIT.false c.if-system-gt-LIMIT-2.false c.if-region-gt-LIMIT.false
+    let told = fails a.system a.rows.now a.constants.now a.basis.now a.region.now c.if-system-gt-LIMIT.false c.if-system-gt-LIMIT-2.false c.if-region-gt-LIMIT.false
     (omega (arith, c.min-entries.ensures, c.if-system-entries.false)) (omega (arith, c.min-entries.ensures, c.if-basis-entries.false)) _ (sym c.in_err-check_lent.ensures) in
     search rules
 
 rest : (c : After-check_lent) → c.check_lent.result ≡ Ok tt → let a = c.args in
-    cond (not (eqb a.region.atoms a.system.atoms)) (Err Unequal) (Ok (tt {0})) ≡ probe_check a.system a.rows.now a.constants.now a.basis.now a.region
+    cond (not (eqb a.region.now.atoms a.system.atoms)) (Err Unequal) (Ok (tt {0})) ≡ probe_check a.system a.rows.now a.constants.now a.basis.now a.region.now
 rest c is =
     let a = c.args in
-    passes a.system a.rows.now a.constants.now a.basis.now a.region c.if-system-gt-LIMIT.false c.if-system-gt-LIMIT-2.false c.if-region-gt-LIMIT.false
+    passes a.system a.rows.now a.constants.now a.basis.now a.region.now c.if-system-gt-LIMIT.false c.if-system-gt-LIMIT-2.false c.if-region-gt-LIMIT.false
     (omega (arith, c.min-entries.ensures, c.if-system-entries.false)) (omega (arith, c.min-entries.ensures, c.if-basis-entries.false)) (sym c.check_lent.ensures ∙ is)
 
 pub returns-then-region-system : goal.returns-then-region-system
