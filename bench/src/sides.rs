@@ -129,6 +129,34 @@ unsafe extern "C" {
         held: *const u64,
         cut: *const u64,
     ) -> PlainProbed;
+    fn call_probe(
+        system: *const raw::System,
+        rows: *const u64,
+        rows_length: usize,
+        constants: *const u8,
+        constants_length: usize,
+        basis: *const usize,
+        basis_length: usize,
+        region: *const raw::Region,
+    ) -> raw::Probed;
+    fn call_inspect(
+        told: *mut raw::Inspection,
+        system: *const raw::System,
+        rows: *const u64,
+        rows_length: usize,
+        constants: *const u8,
+        constants_length: usize,
+        basis: *const usize,
+        basis_length: usize,
+        index: *const u64,
+        index_length: usize,
+        region: *const raw::Region,
+        known: *const raw::Snapshot,
+        forced_atoms: *mut usize,
+        forced_atoms_length: usize,
+        forced_values: *mut u8,
+        forced_values_length: usize,
+    );
 }
 
 /// Preparation over lent buffers, by the library or by C.
@@ -372,9 +400,10 @@ impl Side for OurInspect<'_> {
     fn run(&mut self) {
         let Lent { system, flat } = self.lent;
         for _ in 0..self.calls {
-            self.told = unsafe {
-                raw::worzubil_inspect(
-                    *system,
+            unsafe {
+                call_inspect(
+                    &mut self.told,
+                    system,
                     flat.rows.as_ptr(),
                     flat.rows.len(),
                     flat.constants.as_ptr(),
@@ -383,14 +412,14 @@ impl Side for OurInspect<'_> {
                     flat.basis.len(),
                     flat.index.as_ptr(),
                     flat.index.len(),
-                    black_box(self.region),
-                    self.known,
+                    black_box(&self.region),
+                    &self.known,
                     self.atoms.as_mut_ptr(),
                     self.atoms.len(),
                     self.values.as_mut_ptr(),
                     self.values.len(),
-                )
-            };
+                );
+            }
         }
     }
 }
@@ -399,15 +428,15 @@ impl Side for OurInspect<'_> {
 pub fn our_probe(lent: &Lent, region: &raw::Region) -> raw::Probed {
     let Lent { system, flat } = lent;
     unsafe {
-        raw::worzubil_probe(
-            *system,
+        call_probe(
+            system,
             flat.rows.as_ptr(),
             flat.rows.len(),
             flat.constants.as_ptr(),
             flat.constants.len(),
             flat.basis.as_ptr(),
             flat.basis.len(),
-            *region,
+            region,
         )
     }
 }

@@ -8,7 +8,7 @@ ghost use Rattle.text.specs.Puts.{Puts};
 ghost use Rattle.answer.specs.Text.{refusal_line, sound_word, system_line, memory_of, answers_of, text_of};
 ghost use Rattle.answer.specs.Answer.{room_of, outcome, answer_of};
 
-use lines::Lent;
+use inspect::PreparedSystem;
 use load::LoadError;
 use parity::Prepared;
 use records::{Checked, FILE_LIMIT};
@@ -72,14 +72,8 @@ fn put_answers(
     )
     .unwrap();
     put_system(text, prepared);
-    let lent = Lent {
-        system: prepared.system,
-        rows,
-        constants,
-        basis: &basis,
-        index: &index,
-    };
-    lines::put_lines(file, lent, text);
+    let system = PreparedSystem::checked(prepared.system, rows, constants, &basis, &index);
+    lines::put_lines(file, &system, text);
 }
 
 // The line that refuses a file; memory that is too short has none.

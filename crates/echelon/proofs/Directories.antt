@@ -29,10 +29,13 @@ module _ (n w t : ℕ) (ws cs : List ℕ) (r : Row) where
   unfolding rows_to
   before e = ap (λ (b : Bool). cond b (some (row_at n w ws cs t)) (find r (rows_to n w ws cs t))) e
 
+pub all_listed : {A : Type 0} (x : A) (k a : ℕ) → get_or (replicate k x) a x ≡ x
+all_listed x zero a = refl
+all_listed x (suc k) zero = refl
+all_listed x (suc k) (suc a) = all_listed x k a
+
 pub none_listed : (k a : ℕ) → (get_or (replicate k no_pivot) a no_pivot).head ≡ 0
-none_listed zero a = refl
-none_listed (suc k) zero = refl
-none_listed (suc k) (suc a) = none_listed k a
+none_listed k a = ap (λ (p : Pivot). p.head) (all_listed no_pivot k a)
 
 pub directory_start : (n w : ℕ) (ws cs : List ℕ) (pivots : List Pivot) → ((a : ℕ) → (get_or pivots a no_pivot).head ≡ 0) → w * 64 ≤ length pivots
     → ListsPivots n w 0 ws cs pivots

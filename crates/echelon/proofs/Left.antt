@@ -25,6 +25,10 @@ module _ (n : ℕ) (P : List Row → State → Type 0)
   by_rows [] = begins
   by_rows (r ∷ rs) = step r rs (eliminated n rs) (eliminated n rs).refuted refl (by_rows rs)
 
+pub refuted_stays : (n : ℕ) (r : Row) (rs : List Row) → (eliminated n rs).refuted ≡ true → eliminated n (r ∷ rs) ≡ eliminated n rs
+unfolding eliminated
+refuted_stays n r rs e = let st = eliminated n rs in ap (λ (t : Bool). cond t st (next st (reduced n st.rows r))) e
+
 pub rows_le : (n : ℕ) (rs : List Row) → length (eliminated n rs).rows ≤ length rs
 rows_le n =
     by_rows n (λ rs st. length st.rows ≤ length rs) (omega arith) (λ r rs st e h. omega arith) (λ r rs st e h. omega arith)

@@ -21,7 +21,7 @@ use Rattle.echelon.specs.declared.directory.NewPivot.{NewPivot}
 use Rattle.echelon.specs.declared.directory.Pivot.{Pivot}
 use Rattle.echelon.specs.Steps.{Clean, WordsFit, ListsPivots, IsNewPivot, Finished}
 use Rattle.echelon.proofs.Lows.{has_some}
-use Rattle.echelon.proofs.Left.{rows_le}
+use Rattle.echelon.proofs.Left.{refuted_stays, rows_le}
 use Rattle.echelon.proofs.Basis.{rank_rows}
 use Rattle.echelon.proofs.Solutions.{rank_le}
 use Rattle.echelon.proofs.Written.{words_back, constants_back}
@@ -102,14 +102,12 @@ written_is w st ws cs ps ws' cs' ps' rank additions refuted words constants basi
 
 -- a refuted state stays
 stuck : (n w : ℕ) (ws cs : List ℕ) (t d : ℕ) → (after n w ws cs t).refuted ≡ true → after n w ws cs (d + t) ≡ after n w ws cs t
-unfolding eliminated rows_to
+unfolding rows_to
 stuck n w ws cs t zero e = ap (after n w ws cs) (zero-add t)
 stuck n w ws cs t (suc d) e =
     let before = stuck n w ws cs t d e in
     ap (after n w ws cs) (suc-add d t)
-    ∙ ap (λ (b : Bool). cond b (after n w ws cs (d + t)) (next (after n w ws cs (d + t)) (reduced n (after n w ws cs (d + t)).rows (row_at n w ws cs (d + t)))))
-    (ap (λ (s : State). s.refuted) before ∙ e)
-    ∙ before
+    ∙ refuted_stays n (row_at n w ws cs (d + t)) (rows_to n w ws cs (d + t)) (ap (λ (s : State). s.refuted) before ∙ e) ∙ before
 
 -- ---- one row more
 

@@ -28,7 +28,7 @@ pub struct Eliminated {
 }
 
 // Reduces the rows in order, with a directory for N atoms. The first rows, as long as each is left as it is, have a loop of their own, which keeps all it
-// needs in registers: in a probe that adds no row these are all. Inlined for both sizes, the compiled code kept less there. (By number: a row is reduced by
+// needs in registers: in a probe of more than 64 atoms that adds no row these are all. Inlined for each size, the compiled code kept less there. (By number: a row is reduced by
 // rows before it in the same memory, and the basis is a lent list whose next place `rank` says.)
 #[inline(never)]
 fn eliminate_rows<const N: usize>(
@@ -103,7 +103,7 @@ fn check(n: usize, m: usize, rows: &[u64], constants: &[u8], basis: &[usize]) ->
     rows_fit
 }
 
-// Reduces fit rows. Up to 64 atoms a smaller directory serves, which is sooner cleared.
+// Reduces fit rows, with as large a directory as the atoms need: a smaller one is sooner cleared.
 fn eliminate_fit(
     n: usize,
     m: usize,
@@ -116,10 +116,12 @@ fn eliminate_fit(
 {
     let shape = Shape::of(n);
     if n <= 64 {
-        eliminate_rows::<64>(shape, m, rows, constants, basis)
-    } else {
-        eliminate_rows::<512>(shape, m, rows, constants, basis)
+        return eliminate_rows::<64>(shape, m, rows, constants, basis);
     }
+    if n <= 128 {
+        return eliminate_rows::<128>(shape, m, rows, constants, basis);
+    }
+    eliminate_rows::<512>(shape, m, rows, constants, basis)
 }
 
 // Reduces m rows over n atoms in place, writes the basis, and says how many pivots and additions there were. "Rows in order; while a row has a lowest

@@ -1,4 +1,4 @@
--- `inspect` as a whole: refused with nothing touched, or what the touched rows come to.
+-- `inspect_fit` as a whole: what the touched rows come to.
 use Prim.Native.Nat.{ℕ, zero, suc, ◌≤◌, ◌<◌}
 use mathlib.Core.Path.{◌≡◌, refl, sym, ap, ap₂, subst, ◌∙◌}
 use mathlib.Core.List.{List, [], ◌∷◌, map, zip_with}

@@ -1,6 +1,8 @@
 -- The laws behind the promises and the contracts of this crate.
 pub mod Fits
 pub mod Lent
+pub mod Once
+pub mod Lists
 pub mod Overlaps
 pub mod Readings
 pub mod Visits

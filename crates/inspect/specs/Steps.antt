@@ -1,12 +1,18 @@
 -- What the private functions of `inspect` ask and leave, for their contracts alone: no reader has to believe it, since `inspect` asks
 -- nothing.
-use Rattle.std.specs.Prelude.{ℕ, ◌+◌, ◌≤◌, ◌<◌, ◌≡◌, Bool, false, cond, length, get_or, set, take, eqb, Option, Some, None, Result, Ok, Err}
-use mathlib.Core.List.{List, map, zip_with}
+use Rattle.std.specs.Prelude.{ℕ, ◌+◌, ◌≤◌, ◌<◌, ◌≡◌, Bool, false, cond, ◌||◌, length, get_or, set, take, ltb, eqb, Option, Some, None, Result, Ok, Err}
+use mathlib.Core.List.{List, [], ◌∷◌, map, zip_with}
 use Rattle.words.specs.Set.{set_of}
 use Rattle.rows.specs.Flat.{width_of, atoms_of, row_at}
 use Rattle.rows.specs.Decisions.{Decisions}
 use Rattle.region.specs.Masks.{is_held, is_open, region_of}
-use Rattle.region.specs.Calls.{region_check}
+use Rattle.refusal.specs.Refusal.{checked}
+use Rattle.refusal.specs.declared.Refusal.{Refusal}
+use Rattle.refusal.specs.declared.Refusal.TheVariants.{Short, Overfull, Unequal, Missing}
+use Rattle.parity.specs.declared.System.{System}
+use Rattle.region.specs.Calls.{region_check, region_checks}
+use Rattle.snapshot.specs.Knowledge.{overfull_by, unequal, missing}
+use Rattle.snapshot.specs.declared.Snapshot.{Snapshot}
 use Rattle.region.specs.declared.Region.{Region}
 use Rattle.inspect.specs.declared.Forced.{Forced}
 use Rattle.inspect.specs.declared.Contradiction.{Contradiction}
@@ -17,6 +23,14 @@ use Rattle.inspect.specs.declared.apply.Tally.{Tally}
 use Rattle.inspect.specs.Consequences.{Reading, reading_of, Consequences}
 use Rattle.inspect.specs.Batch.{Batch, next}
 use Rattle.inspect.specs.Inspect.{atoms_from, values_from}
+
+-- The checks of a call that are left where the system and its memory pass `prepared_check`: 10, 9, 10 to 12 of the region, 15, 16.
+unfoldable pub call_check : System → Region → Snapshot → ℕ → ℕ → Result Unit Refusal
+call_check s r known atoms values =
+    checked (
+    (Overfull, overfull_by s r known) ∷
+    (Short, ltb atoms s.rank || ltb values s.rank) ∷
+    region_checks r ((Unequal, unequal s r known) ∷ (Missing, missing r known) ∷ []))
 
 -- How long the forced list is after a row, and its atoms and values with what the row forces as entry `at`.
 abbrev pub count_noted : Option Forced → ℕ → ℕ

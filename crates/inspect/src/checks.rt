@@ -1,5 +1,5 @@
 // Whether what `inspect` is asked is fit: document 01's numbers 10, 13 for the rank, 9, 11, 12, 13 for a basis entry, 14, 15, 16. Lists are passed one
-// by one, as `inspect` is lent them: a struct would be made for the checks alone.
+// by one: `probe` lends `check_lent` no index, and so has no struct of them.
 ghost use Rattle.std.specs.Prelude.{◌≡◌, ◌≤◌};
 ghost use Rattle.inspect.specs.Lent.{lent_check};
 ghost use Rattle.inspect.specs.Inspect.{filled, lists_short, inspect_check};

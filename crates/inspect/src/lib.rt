@@ -1,5 +1,5 @@
 // One inspection: a port of the inspection of parity/runtime.rs over lent memory. Touched basis rows are read against the region as it
-// came, that region is published, and what follows from single rows is then decided in basis order.
+// came, that region is published, and what follows from single rows is then decided in basis order (prepared.rt).
 #![tactic(auto)]
 
 ghost use Rattle.std.specs.Prelude.{◌≡◌, ◌-◌, ◌^◌, Ok, replicate};
@@ -13,7 +13,8 @@ ghost use Rattle.inspect.specs.Steps.{Masked, Applicable, forced_in};
 
 use apply::Tally;
 pub use checks::check_lent;
-use parity::{Basis, System};
+use parity::System;
+pub use prepared::PreparedSystem;
 use refusal::Refusal;
 use region::Region;
 use rows::Atom;
@@ -22,6 +23,7 @@ use snapshot::Snapshot;
 mod apply;
 mod checks;
 mod collect;
+mod prepared;
 pub mod promises;
 mod says;
 
@@ -139,8 +141,8 @@ fn conclude(
     }
 }
 
-// Inspects the touched basis rows of a prepared system against a region, once. Lists are lent one by one, as C lends them.
-#[tactic(auto, unfolding(crate::specs::Inspect::inspect_of))]
+// Inspects the touched basis rows of a prepared system against a region, once. Lists are lent one by one, as C lends them: anew for each call, so that
+// nothing was looked at before.
 pub fn inspect(
     system: System,
     rows: &[u64],
@@ -154,33 +156,13 @@ pub fn inspect(
 ) -> Result<Inspected, Refusal>
     ensures { outcome result forced_atoms.new forced_values.new ≡ inspect_of system (filled rows.now constants.now basis.now index.now) region known forced_atoms.old forced_values.old }
 {
-    checks::check(
+    let prepared = PreparedSystem {
         system,
         rows,
         constants,
         basis,
         index,
-        region,
-        known,
-        forced_atoms.len(),
-        forced_values.len(),
-    )?;
-    if system.refuted {
-        return Ok(stands(Step::Refuted, 0, region, known));
-    }
-    if system.rank == 0 {
-        return Ok(stands(Step::Unchanged, 0, region, known));
-    }
-    let touched = snapshot::select(system.rank, index, region, known);
-    let lent = Basis {
-        atoms: system.atoms,
-        rank: system.rank,
-        rows,
-        constants,
-        entries: basis,
+        fit: false,
     };
-    match collect::collect_touched(&lent, touched, region, forced_atoms, forced_values) {
-        Ok(forced) => Ok(conclude(region, known, forced, forced_atoms, forced_values)),
-        Err(found) => Ok(stands(Step::Refuted, found.forced, region, known)),
-    }
+    prepared.inspect(region, known, forced_atoms, forced_values)
 }

@@ -38,7 +38,7 @@ call_line st (inspect s l atoms values) = inspect_line (inspect_of s l st.region
 abbrev pub decision_at : List ℕ → ℕ → Call
 decision_at file o = let a : Atom = record { 0 = decided_at file o } in cond (eqb (value_at file o) 1) (hold a) (cut a)
 
--- An inspection is lent a forced list of 512 entries.
+-- An inspection is lent a forced list of 512 entries. (Zeros here: what it holds has no part in a line, nor in what a call leaves.)
 abbrev pub inspection : System → Filled → Call
 inspection s l = inspect s l (replicate limit 0) (replicate limit 0)
 

@@ -11,7 +11,7 @@ ghost use Rattle.lines.specs.Lines.{decision_at, inspection, lines_from};
 ghost use Rattle.lines.specs.Steps.{state_of, Called, Turned};
 
 use format::{Kind, Record, Records};
-use parity::System;
+use inspect::PreparedSystem;
 use region::Region;
 use rows::Atom;
 use snapshot::Snapshot;
@@ -19,21 +19,13 @@ use text::Text;
 
 mod print;
 
-// What the calls of a file are lent: a system, and the memory that its preparation filled.
-#[derive(Clone, Copy)]
-pub struct Lent<'a> {
-    pub system: System,
-    pub rows: &'a [u64],
-    pub constants: &'a [u8],
-    pub basis: &'a [usize],
-    pub index: &'a [u64],
-}
-
-// Region and knowledge, as the last call left them.
-#[derive(Clone, Copy)]
+// Region and knowledge, as the last call left them, and the memory that inspections are lent for their forced lists.
+#[derive(Drop)]
 struct State {
     region: Region,
     known: Snapshot,
+    forced_atoms: [usize; 512],
+    forced_values: [u8; 512],
 }
 
 impl State {
@@ -48,6 +40,8 @@ impl State {
                 cut: [0; 8],
             }),
             known: Snapshot::fresh(),
+            forced_atoms: [0; 512],
+            forced_values: [0; 512],
         }
     }
 
@@ -66,22 +60,15 @@ impl State {
         print::put_decision(text, atom, usize::from(holds), answer);
     }
 
-    // An inspection: its line, and region and knowledge as it leaves them. (The two lists are memory that `inspect` is lent.)
-    fn inspect(&mut self, lent: Lent, text: &mut Text)
-        ensures { Called (state_of self.old) (inspection lent.entry.system (filled lent.entry.rows.now lent.entry.constants.now lent.entry.basis.now lent.entry.index.now)) text.old text.new self.new }
+    // An inspection: its line, and region and knowledge as it leaves them.
+    fn inspect(&mut self, prepared: &PreparedSystem, text: &mut Text)
+        ensures { Called (state_of self.old) (inspection prepared.now.system (filled prepared.now.rows.now prepared.now.constants.now prepared.now.basis.now prepared.now.index.now)) text.old text.new self.new }
     {
-        let mut atoms = [0usize; 512];
-        let mut values = [0u8; 512];
-        let inspected = inspect::inspect(
-            lent.system,
-            lent.rows,
-            lent.constants,
-            lent.basis,
-            lent.index,
+        let inspected = prepared.inspect(
             self.region,
             self.known,
-            &mut atoms,
-            &mut values,
+            &mut self.forced_atoms,
+            &mut self.forced_values,
         );
         if let Ok(inspected) = inspected {
             self.region = inspected.region;
@@ -91,21 +78,21 @@ impl State {
     }
 
     // A record: its line if its kind has one, and region and knowledge as its call leaves them.
-    fn turn(&mut self, at: Record, lent: Lent, text: &mut Text)
-        ensures { Turned at.entry.file.now lent.entry.system (filled lent.entry.rows.now lent.entry.constants.now lent.entry.basis.now lent.entry.index.now) (state_of self.old) at.entry.offset text.old text.new self.new }
+    fn turn(&mut self, at: Record, prepared: &PreparedSystem, text: &mut Text)
+        ensures { Turned at.entry.file.now prepared.now.system (filled prepared.now.rows.now prepared.now.constants.now prepared.now.basis.now prepared.now.index.now) (state_of self.old) at.entry.offset text.old text.new self.new }
     {
         let Ok(kind) = at.kind() else {
             return;
         };
         match kind {
             Kind::Decide => self.decide(at, text),
-            Kind::Inspect => self.inspect(lent, text),
+            Kind::Inspect => self.inspect(prepared, text),
             Kind::Probe => {
                 let probed = probe::probe(
-                    lent.system,
-                    lent.rows,
-                    lent.constants,
-                    lent.basis,
+                    prepared.system,
+                    prepared.rows,
+                    prepared.constants,
+                    prepared.basis,
                     self.region,
                 );
                 print::put_probe(text, probed);
@@ -116,11 +103,11 @@ impl State {
 }
 
 // The lines of all records.
-pub fn put_lines(file: &[u8], lent: Lent, text: &mut Text)
-    ensures { Puts text.old (lines_from file.now lent.entry.system (filled lent.entry.rows.now lent.entry.constants.now lent.entry.basis.now lent.entry.index.now) (begins lent.entry.system.atoms) (starts file.now 0)) text.new }
+pub fn put_lines(file: &[u8], prepared: &PreparedSystem, text: &mut Text)
+    ensures { Puts text.old (lines_from file.now prepared.now.system (filled prepared.now.rows.now prepared.now.constants.now prepared.now.basis.now prepared.now.index.now) (begins prepared.now.system.atoms) (starts file.now 0)) text.new }
 {
-    let mut state = State::begin(lent.system.atoms);
+    let mut state = State::begin(prepared.system.atoms);
     for record in Records::of(file) {
-        state.turn(record, lent, text);
+        state.turn(record, prepared, text);
     }
 }

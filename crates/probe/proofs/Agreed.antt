@@ -23,6 +23,7 @@ use Rattle.echelon.specs.Promises.{Sized}
 use Rattle.echelon.proofs.Solutions.{meets_append, solutions_kept, sound_counts}
 use Rattle.region.specs.Masks.{is_held, is_open}
 use Rattle.probe.specs.Elimination.{substituted, reduced_by, Kept, keeps, step, kept_from, eliminated}
+use Rattle.probe.specs.declared.eliminate.Eliminated.{Eliminated}
 use Rattle.probe.specs.Steps.{told}
 use Rattle.probe.proofs.Counted.{kept_few, probe_counts}
 
@@ -148,6 +149,15 @@ unfoldable pub numbered_to : (ℕ → Row) → ℕ → List Row
 numbered_to f zero = []
 numbered_to f (suc j) = f j ∷ numbered_to f j
 
+pub numbered_next : (n : ℕ) (f : ℕ → Row) (j : ℕ) → let st = echelon.eliminated n (numbered_to f j) in
+    echelon.eliminated n (numbered_to f (suc j)) ≡ cond st.refuted st (next st (reduced n st.rows (f j)))
+unfolding numbered_to echelon.eliminated
+numbered_next n f j = refl
+
+-- what is told of a state of forward elimination
+abbrev pub told_forward : State → Eliminated
+told_forward st = record { kept = length st.basis; sound = not st.refuted }
+
 pub numbered_sized : (n : ℕ) (f : ℕ → Row) → ((j : ℕ) → length (f j).atoms ≡ n) → (j : ℕ) → Sized n (numbered_to f j)
 unfolding numbered_to
 numbered_sized n f wide zero = tt
@@ -167,10 +177,6 @@ module _ (n : ℕ) (p : Decisions) (long : length p ≡ n) (f : ℕ → Row) (wi
 
   abbrev kept : ℕ → Kept
   kept j = eliminated p (take j bs)
-
-  forward_next : (j : ℕ) → forward (suc j) ≡ cond (forward j).refuted (forward j) (next (forward j) (reduced n (forward j).rows (f j)))
-  unfolding numbered_to echelon.eliminated
-  forward_next j = refl
 
   kept_next : (j : ℕ) → j < length bs → kept (suc j) ≡ step p (kept j) (get_or bs j d)
   kept_next j h =
@@ -237,12 +243,12 @@ module _ (n : ℕ) (p : Decisions) (long : length p ≡ n) (f : ℕ → Row) (wi
       go true e before =
           let no : (kept (suc j)).sound ≡ false = not-true (kept (suc j)).sound (sym (same_answer (suc j) h) ∙ e) in
           let stays = step_no (kept j) (reduced_by (kept j).rows (substituted p (get_or bs j d))) (kept j).sound (sym (ap (λ (k : Kept). k.sound) (kept_next j h)) ∙ no) in
-          let no' = next_no n (forward j) (f j) (forward j).refuted (sym (ap (λ (st : State). st.refuted) (forward_next j)) ∙ e) in
-          ap length (ap (λ (st : State). st.basis) (forward_next j) ∙ no') ∙ before
+          let no' = next_no n (forward j) (f j) (forward j).refuted (sym (ap (λ (st : State). st.refuted) (numbered_next n f j)) ∙ e) in
+          ap length (ap (λ (st : State). st.basis) (numbered_next n f j) ∙ no') ∙ before
           ∙ ap length (sym stays ∙ sym (ap (λ (k : Kept). k.rows) (kept_next j h)))
 
   -- all of them
-  pub agreed : record { kept = length (forward (length bs)).basis; sound = not (forward (length bs)).refuted } ≡ told (eliminated p bs)
+  pub agreed : told_forward (forward (length bs)) ≡ told (eliminated p bs)
   agreed =
       let m = length bs in
       ap₂ (λ (k : ℕ) (t : Bool). record { kept = k; sound = t }) (same_rank m (omega arith)) (ap not (same_answer m (omega arith)) ∙ twice (kept m).sound)

@@ -28,7 +28,7 @@ use Rattle.probe.specs.Elimination.{substituted, eliminated}
 use Rattle.inspect.specs.Steps.{Masked}
 use Rattle.probe.specs.Steps.{Room, Opened, told}
 use Rattle.echelon.proofs.Replaced.{row_at_length}
-use Rattle.probe.proofs.Agreed.{numbered_to, agreed}
+use Rattle.probe.proofs.Agreed.{numbered_to, told_forward, agreed}
 
 module _ {n rank : ℕ} {held free ws cs ps left cs' : List ℕ} (pivots : List ℕ) (atoms : n ≤ 512) (named : Named n rank ws cs ps) (room : Room n rank left cs')
     (entries : min rank n ≤ length pivots) (opened : Opened n held free ws cs ps left cs' rank) where
@@ -52,10 +52,10 @@ module _ {n rank : ℕ} {held free ws cs ps left cs' : List ℕ} (pivots : List 
   unrefused = fit_joined n rank left cs' (ltb (length pivots) (min rank n)) fit (le-ltb _ _ entries)
 
   -- the rows in memory by their numbers
-  numbered : (m : ℕ) → rows_to n w left cs' m ≡ numbered_to (row_at n w left cs') m
+  rows_numbered : (m : ℕ) → rows_to n w left cs' m ≡ numbered_to (row_at n w left cs') m
   unfolding rows_to numbered_to
-  numbered zero = refl
-  numbered (suc m) = ap (λ (rs : List Row). row_at n w left cs' m ∷ rs) (numbered m)
+  rows_numbered zero = refl
+  rows_numbered (suc m) = ap (λ (rs : List Row). row_at n w left cs' m ∷ rs) (rows_numbered m)
 
   -- elimination does not refuse it
   pub never_refused : (done : Result forward.Eliminated Refusal) (left'' cs'' pivots'' : List ℕ) → outcome done left'' cs'' pivots'' ≡ eliminate_of n rank left cs' pivots → IsOk done
@@ -70,7 +70,7 @@ module _ {n rank : ℕ} {held free ws cs ps left cs' : List ℕ} (pivots : List 
     answered p m =
         let long : length p ≡ n = sym (length-map p is_held) ∙ ap length m.held_are ∙ atoms_length n (set_of held) in
         ap (λ (o : Outcome forward.Eliminated). record { kept = o.result.rank; sound = not o.result.refuted }) is
-        ∙ ap (λ (rs : List Row). let st = echelon.eliminated n rs in record { kept = length st.basis; sound = not st.refuted })
-        (numbered rank ∙ ap (numbered_to (row_at n w left cs')) (sym all))
+        ∙ ap (λ (rs : List Row). told_forward (echelon.eliminated n rs))
+        (rows_numbered rank ∙ ap (numbered_to (row_at n w left cs')) (sym all))
         ∙ agreed n p long (row_at n w left cs') (λ j. row_at_length n w left cs' j) bs (row_at n w ws cs 0)
         (λ j h. let below : j < rank = omega (arith, all) in opened.rows p m j below ∙ ap (substituted p) (sym (basis_at n ws cs ps rank j below)))

@@ -28,28 +28,29 @@ use Rattle.echelon.specs.Forward as echelon
 use Rattle.echelon.specs.Promises.{Lowest}
 use Rattle.echelon.specs.Steps.{Onward, rest}
 use Rattle.echelon.proofs.Lows.{same_low_lem, other_low, none_low, find_none, empty_none, has_some, rest_falls}
+use Rattle.echelon.proofs.Left.{refuted_stays}
+use Rattle.echelon.proofs.Directories.{all_listed}
 use Rattle.echelon.proofs.Solutions.{rank_le}
 use Rattle.echelon.proofs.Onwards.{find_same, onward_start, onward_next, onward_end}
 use Rattle.probe.specs.declared.narrow.NarrowRow.{NarrowRow}
-use Rattle.probe.specs.declared.eliminate.Eliminated.{Eliminated}
 use Rattle.probe.specs.Steps.{no_row, pivot_at}
-use Rattle.probe.proofs.Agreed.{numbered_to, numbered_sized}
+use Rattle.probe.proofs.Agreed.{numbered_to, numbered_next, numbered_sized, told_forward}
 
 -- a word and a constant as a row over n atoms
 abbrev pub row_of : ℕ → NarrowRow → Row
 row_of n r = record { atoms = atoms_of n r.word; constant = eqb r.constant 1 }
 
-pub record Fit (n : ℕ) (r : NarrowRow) : Type 0 where
+pub record NarrowFit (n : ℕ) (r : NarrowRow) : Type 0 where
   pub word : r.word < 2 ^ n
   pub constant : r.constant < 2
 
 abbrev pub sum : NarrowRow → NarrowRow → NarrowRow
 sum r s = record { word = bit_xor r.word s.word; constant = bit_xor r.constant s.constant }
 
-sum_fit : (n : ℕ) (r s : NarrowRow) → Fit n r → Fit n s → Fit n (sum r s)
+sum_fit : (n : ℕ) (r s : NarrowRow) → NarrowFit n r → NarrowFit n s → NarrowFit n (sum r s)
 sum_fit n r s f g = record { word = xor_lt n r.word s.word f.word g.word; constant = xor_lt 1 r.constant s.constant f.constant g.constant }
 
-sum_is : (n : ℕ) (r s : NarrowRow) → Fit n r → Fit n s → row_of n (sum r s) ≡ add (row_of n r) (row_of n s)
+sum_is : (n : ℕ) (r s : NarrowRow) → NarrowFit n r → NarrowFit n s → row_of n (sum r s) ≡ add (row_of n r) (row_of n s)
 sum_is n r s f g =
     ap₂ (λ (l : List Bool) (c : Bool). record { atoms = l; constant = c }) (atoms_xor n r.word s.word)
     (constant_sum r.constant s.constant f.constant g.constant)
@@ -89,7 +90,7 @@ pivot_is pivots word h = ap (λ (e : Bool). cond e no_row (get_or pivots (count_
 
 -- what the pivots say of atom a: no row so far has it as its lowest one, or the pivot is the row found for one that has
 pub record Known (n : ℕ) (rows : List Row) (a : ℕ) (pivot : NarrowRow) : Type 0 where
-  pub fit : Fit n pivot
+  pub fit : NarrowFit n pivot
   pub none_yet : pivot.word ≡ 0 → (r : Row) → Lowest r a → find r rows ≡ none
   pub found : 0 < pivot.word → (r : Row) → Lowest r a → find r rows ≡ some (row_of n pivot)
 
@@ -97,16 +98,11 @@ pub record Directory (n : ℕ) (rows : List Row) (pivots : List NarrowRow) : Typ
   pub wide : n ≤ length pivots
   pub known : (a : ℕ) → a < n → Known n rows a (get_or pivots a no_row)
 
-none_listed : (k a : ℕ) → get_or (replicate k no_row) a no_row ≡ no_row
-none_listed zero a = refl
-none_listed (suc k) zero = refl
-none_listed (suc k) (suc a) = none_listed k a
-
 pub directory_start : (n k : ℕ) → n ≤ k → Directory n [] (replicate k no_row)
 directory_start n k h = record {
   wide = simp length-replicate h;
   known = λ a l.
-      rw (none_listed k a)
+      rw (all_listed no_row k a)
       (record {
         fit = record { word = pow_pos n; constant = omega arith };
         none_yet = λ e r low. refl;
@@ -132,7 +128,7 @@ module _ (n : ℕ) (rows : List Row) (pivots : List NarrowRow) (dir : Directory 
   }
 
   -- a row that is not is entered at its lowest atom
-  module _ (fit : Fit n q) (some_atom : 0 < q.word) (wide : q.word < 2 ^ 64) where
+  module _ (fit : NarrowFit n q) (some_atom : 0 < q.word) (wide : q.word < 2 ^ 64) where
     at : ℕ
     at = lowest q
 
@@ -167,11 +163,11 @@ module _ (n : ℕ) (rows : List Row) (pivots : List NarrowRow) (dir : Directory 
 
 -- from a row to what is left of it, by some additions
 pub record Turn (n : ℕ) (rows : List Row) (begun : Row) (left : NarrowRow) : Type 0 where
-  pub fit : Fit n left
+  pub fit : NarrowFit n left
   pub additions : ℕ
   pub onward : Onward rows begun additions (row_of n left)
 
-pub turn_start : (n : ℕ) (rows : List Row) (q : NarrowRow) → Fit n q → Turn n rows (row_of n q) q
+pub turn_start : (n : ℕ) (rows : List Row) (q : NarrowRow) → NarrowFit n q → Turn n rows (row_of n q) q
 turn_start n rows q fit = record { fit = fit; additions = 0; onward = onward_start rows (row_of n q) }
 
 module _ {n : ℕ} {rows : List Row} {pivots : List NarrowRow} (dir : Directory n rows pivots) {begun : Row} {left : NarrowRow} (turn : Turn n rows begun left)
@@ -226,9 +222,6 @@ module _ {n : ℕ} {rows : List Row} {pivots : List NarrowRow} (dir : Directory 
 
 -- ---- row after row
 
-abbrev pub told_so : State → Eliminated
-told_so st = record { kept = length st.basis; sound = not st.refuted }
-
 module _ (n : ℕ) (f : ℕ → NarrowRow) where
   abbrev pub after : ℕ → State
   after j = echelon.eliminated n (numbered_to (λ i. row_of n (f i)) j)
@@ -243,17 +236,16 @@ module _ (n : ℕ) (f : ℕ → NarrowRow) where
   narrowed_start k h = record { going = refl; kept_is = refl; directory = directory_start n k h }
 
   after_next : (j : ℕ) → after (suc j) ≡ cond (after j).refuted (after j) (next (after j) (reduced n (after j).rows (row_of n (f j))))
-  unfolding echelon.eliminated numbered_to
-  after_next j = refl
+  after_next j = numbered_next n (λ i. row_of n (f i)) j
 
   -- a refuted state stays
   stuck : (j d : ℕ) → (after j).refuted ≡ true → after (d + j) ≡ after j
+  unfolding numbered_to
   stuck j zero e = ap after (zero-add j)
   stuck j (suc d) e =
       let before = stuck j d e in
-      ap after (suc-add d j) ∙ after_next (d + j)
-      ∙ ap (λ (b : Bool). cond b (after (d + j)) (next (after (d + j)) (reduced n (after (d + j)).rows (row_of n (f (d + j)))))) (ap (λ (st : State). st.refuted) before ∙ e)
-      ∙ before
+      ap after (suc-add d j)
+      ∙ refuted_stays n (row_of n (f (d + j))) (numbered_to (λ i. row_of n (f i)) (d + j)) (ap (λ (st : State). st.refuted) before ∙ e) ∙ before
 
   pub narrowed_few : {pivots : List NarrowRow} {kept j : ℕ} → Narrowed pivots kept j → kept ≤ n
   narrowed_few {j = j} so =
@@ -292,7 +284,7 @@ module _ (n : ℕ) (f : ℕ → NarrowRow) where
           directory = subst (λ (st : State). Directory n st.rows pivots) (sym then) (directory_empty n (after j).rows pivots so.directory left e);
         }
 
-    pub narrowed_refuted : (m : ℕ) → j < m → left.word ≡ 0 → left.constant ≡ 1 → record { kept = kept; sound = false } ≡ told_so (after m)
+    pub narrowed_refuted : (m : ℕ) → j < m → left.word ≡ 0 → left.constant ≡ 1 → record { kept = kept; sound = false } ≡ told_forward (after m)
     narrowed_refuted m h e one =
         let is : empty (row_of n left).atoms ≡ true = no_atom n left e in
         let refuted : (after (j + 1)).refuted ≡ true = ap (λ (st : State). st.refuted) then ∙ ap₂ ◌&&◌ is (eq-eqb left.constant 1 one) in
@@ -300,7 +292,7 @@ module _ (n : ℕ) (f : ℕ → NarrowRow) where
         let counted : kept ≡ length (after (j + 1)).basis =
         so.kept_is ∙ sym (ap (λ (b : Bool). length (joined b (length (after j).rows) (after j).basis)) is) ∙ sym (ap (λ (st : State). length st.basis) then) in
         ap₂ (λ (k : ℕ) (t : Bool). record { kept = k; sound = not t }) counted (sym refuted)
-        ∙ ap told_so (sym (stuck (j + 1) (m - (j + 1)) refuted) ∙ ap after last)
+        ∙ ap told_forward (sym (stuck (j + 1) (m - (j + 1)) refuted) ∙ ap after last)
 
-  pub narrowed_end : {pivots : List NarrowRow} {kept j : ℕ} → Narrowed pivots kept j → record { kept = kept; sound = true } ≡ told_so (after j)
+  pub narrowed_end : {pivots : List NarrowRow} {kept j : ℕ} → Narrowed pivots kept j → record { kept = kept; sound = true } ≡ told_forward (after j)
   narrowed_end so = ap₂ (λ (k : ℕ) (t : Bool). record { kept = k; sound = not t }) so.kept_is (sym so.going)

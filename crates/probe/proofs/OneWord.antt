@@ -20,9 +20,9 @@ use Rattle.probe.specs.Elimination.{substituted}
 use Rattle.probe.specs.Steps.{opened_row, ToldOf}
 use Rattle.probe.specs.declared.narrow.NarrowRow.{NarrowRow}
 use Rattle.probe.specs.declared.eliminate.Eliminated.{Eliminated}
-use Rattle.probe.proofs.Agreed.{agreed}
+use Rattle.probe.proofs.Agreed.{told_forward, agreed}
 use Rattle.probe.proofs.Opening.{opened_below, opened_small, opened_is}
-use Rattle.probe.proofs.Narrowing.{row_of, Fit, told_so, after}
+use Rattle.probe.proofs.Narrowing.{row_of, NarrowFit, after}
 
 -- a set of one word
 one_word : (l m : List ℕ) → length l ≡ 1 → 0 < length m → get_or l 0 0 < 2 ^ 64 → bit_and (get_or l 0 0) (get_or m 0 0) ≡ bit_and (set_of l) (set_of m)
@@ -50,15 +50,15 @@ module _ (b : Basis) (m : Masks) where
   abbrev pub opened_at : ℕ → NarrowRow
   opened_at j = let s = get_or b.entries.now j 0 in opened_row m.held m.free (row (width_of n) b.rows.now s) (get_or b.constants.now s 0)
 
-  pub opened_fit : (j : ℕ) → j < b.rank → Fit n (opened_at j)
+  pub opened_fit : (j : ℕ) → j < b.rank → NarrowFit n (opened_at j)
   opened_fit j h = let fit = b.named.legible j h in record { word = opened_below fit m.held m.free; constant = opened_small fit m.held m.free }
 
   -- what forward elimination tells of them all is what is told of the basis rows
-  pub told_all : (e : Eliminated) → e ≡ told_so (after n opened_at b.rank) → ToldOf b m e
+  pub told_all : (e : Eliminated) → e ≡ told_forward (after n opened_at b.rank) → ToldOf b m e
   told_all e is p masked =
       let all : length (rows_of b) ≡ b.rank = basis_length n b.rows.now b.constants.now b.entries.now b.rank b.named.entries in
       let long : length p ≡ n = sym (length-map p is_held) ∙ ap length masked.held_are ∙ atoms_length n (set_of m.held) in
-      is ∙ ap (λ (k : ℕ). told_so (after n opened_at k)) (sym all)
+      is ∙ ap (λ (k : ℕ). told_forward (after n opened_at k)) (sym all)
       ∙ agreed n p long (λ j. row_of n (opened_at j)) (λ j. atoms_length n (opened_at j).word) (rows_of b) (row_at n (width_of n) b.rows.now b.constants.now 0)
       (λ j h.
       let below : j < b.rank = omega (arith, h, all) in

@@ -32,7 +32,7 @@ pub record Opened (n : ℕ) (held free ws cs ps left cs' : List ℕ) (j : ℕ) :
   pub rows : (p : Decisions) → Masked n p held free → (i : ℕ) → i < j
       → row_at n (width_of n) left cs' i ≡ substituted p (row_at n (width_of n) ws cs (get_or ps i 0))
 
--- The open atoms of a basis row that is one word, and its constant flipped by each atom held.
+-- The open atoms of a basis row as one number, a word where the row is one, and its constant flipped by each atom held.
 abbrev pub opened_row : (held free words : List ℕ) → ℕ → NarrowRow
 opened_row held free words constant =
     let own = set_of words in
@@ -42,7 +42,7 @@ opened_row held free words constant =
 abbrev pub no_row : NarrowRow
 no_row = record { word = 0; constant = 0 }
 
--- The pivot of the lowest atom of a word.
+-- The pivot of the lowest atom of a word; an empty word has none.
 unfoldable pub pivot_at : List NarrowRow → ℕ → NarrowRow
 pivot_at pivots word = cond (eqb word 0) no_row (get_or pivots (count_trailing_zeros 64 word) no_row)
 

@@ -87,8 +87,8 @@ fn eliminate_in<const WORDS: usize, const ROWS: usize>(basis: &Basis, masks: &Ma
     eliminate_with(basis, masks, &mut left, &mut constants, &mut pivots)
 }
 
-// The same in as much memory as the rows need, since it is cleared first. (Not inlined, and by value: where the rows are of one word, neither basis nor
-// masks are then written to memory.)
+// The same in as much memory as the rows need, since it is cleared first: above 64 atoms a row has two words or more, so that 256 words are at most 128 rows,
+// and 1,024 at most 256. (Not inlined, and by value: where the rows are of one word, neither basis nor masks are then written to memory.)
 #[inline(never)]
 fn eliminate_wide(basis: Basis, masks: Masks) -> Eliminated
     requires { 64 < basis.atoms }
@@ -107,7 +107,7 @@ fn eliminate_wide(basis: Basis, masks: Masks) -> Eliminated
     eliminate_in::<4096, 512>(&basis, &masks)
 }
 
-// The basis rows over the open atoms, by one word where they have one.
+// What is told of the basis rows over the open atoms: in a register up to 64 atoms, above that in memory.
 pub fn eliminate(basis: Basis, masks: Masks) -> Eliminated
     ensures { ToldOf basis.entry masks result }
 {

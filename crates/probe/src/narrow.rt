@@ -1,5 +1,5 @@
-// Elimination over the open atoms where a row is one word: a row is reduced by the pivots so far in a register. No row is written and none is checked
-// a second time, which is most of what few rows cost in memory.
+// Elimination over the open atoms where a row is one word: a row is reduced by the pivots so far in a register. (`echelon` would be lent rows written for it,
+// and look at them a second time: for few rows that is most of the time.)
 ghost use Rattle.std.specs.Prelude.{◌≡◌, ◌≤◌, ◌<◌, ◌^◌, MatchOption, length, replicate, slice_set};
 ghost use Rattle.std.specs.Int.Count.{count_trailing_zeros};
 ghost use Rattle.probe.specs.Steps.{no_row, opened_row, pivot_at, ToldOf};
@@ -10,9 +10,9 @@ use parity::{Basis, BasisRow};
 
 // A row of one word.
 #[derive(Clone, Copy)]
-pub struct NarrowRow {
-    pub word: u64,
-    pub constant: u8,
+struct NarrowRow {
+    word: u64,
+    constant: u8,
 }
 
 // What an atom without a pivot has: a pivot is not empty. (No Option, for `echelon`'s reason: it would be a third word to clear and to read.)
@@ -73,7 +73,8 @@ impl<const N: usize> Pivots<N> {
     }
 }
 
-// Basis rows of at most N atoms.
+// How many basis rows of at most N atoms are kept, and whether none says no. (By `while`: each addition says whether there is another. Two loops in one function:
+// what a row is reduced to is said of the rows before it, and the pivots alone would not tell a function of its own which these are.)
 pub fn eliminate<const N: usize>(basis: &Basis, masks: &Masks) -> Eliminated
     requires { (basis.now.atoms ≤ N) × (N ≤ 64) }
     ensures { ToldOf basis.now masks.now result }

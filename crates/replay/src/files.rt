@@ -60,7 +60,7 @@ impl Run {
         self.values = [7; 512];
     }
 
-    // Region and knowledge as `lines` has them after an inspection; there the forced list is dropped with its arrays, here it is compared.
+    // Region and knowledge as `lines` has them after an inspection; there the forced list is looked at by none, here it is compared.
     fn inspect(&mut self, system: System, memory: &Memory) {
         let said = inspect::inspect(
             system,

@@ -107,7 +107,8 @@ impl Snapshot {
         self.initialized && !(within(&self.held, &region.held) && within(&self.cut, &region.cut))
     }
 
-    // The last checks of a call that is lent an index.
+    // The last checks of a call that is lent an index. (Inlined, as `select` is: else region and knowledge are copied for it.)
+    #[inline(always)]
     pub fn check_last(self, system: System, index: &[u64], region: Region) -> Result<(), Refusal>
         ensures { result ≡ last_check system index.now region self }
     {
@@ -166,6 +167,7 @@ fn join_columns(rows: &mut [u64], atoms: &[u64; 8], index: &[u64], width: usize,
 }
 
 // The basis rows, up to 512, that the decisions made since the knowledge was published touch. It checks nothing: `touched` does.
+#[inline(always)]
 pub fn select(rank: usize, index: &[u64], region: Region, known: Snapshot) -> Ordinals
     ensures { result ≡ ordinals_of (touched_of rank index.now region known) }
 {

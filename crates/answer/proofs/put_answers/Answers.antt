@@ -13,4 +13,4 @@ pub returns : goal.returns
 returns c =
     let a = c.args in
     answers_put a.checked.atoms a.checked.rows a.rows.now a.constants.now c.requires c.prepare.ensures a.file.now c.unwrap-prepared.ensures c.put_system.ensures
-    c.put_lines.ensures
+    (rw (c.checked-system.ensures.system, c.checked-system.ensures.memory) at c.put_lines.ensures)

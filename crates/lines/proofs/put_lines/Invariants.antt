@@ -10,6 +10,6 @@ use Rattle.lines.proofs.put_lines.Given as goal
 
 abbrev pub invariant-loop-record : goal.invariant-loop-record
 invariant-loop-record l =
-    let f = filled l.lent.rows.now l.lent.constants.now l.lent.basis.now l.lent.index.now in
+    let f = filled l.prepared.rows.now l.prepared.constants.now l.prepared.basis.now l.prepared.index.now in
     (l.record-iterator.next.file.now ≡ l.file)
-    × Onward l.file l.lent.system f (lines_from l.file l.lent.system f (begins l.lent.system.atoms) (starts l.file 0)) l.fn.text (state_of l.state) l.record-iterator.next.offset l.text
+    × Onward l.file l.prepared.system f (lines_from l.file l.prepared.system f (begins l.prepared.system.atoms) (starts l.file 0)) l.fn.text (state_of l.state) l.record-iterator.next.offset l.text

@@ -4,7 +4,8 @@ use native.Mathlib.Nat.{lt_of_lt_of_le}
 use lib.Pow.{pow_mono}
 use Rattle.parity.proofs.InOrder.{Given, ordered_start, ordered_some, ordered_none}
 use Rattle.probe.specs.Steps.{opened_row}
-use Rattle.probe.proofs.Narrowing.{Fit, told_so, after, narrowed_start, narrowed_few, turn_start, turn_next, turn_falls, narrowed_pivot, narrowed_empty, narrowed_refuted, narrowed_end}
+use Rattle.probe.proofs.Agreed.{told_forward}
+use Rattle.probe.proofs.Narrowing.{NarrowFit, after, narrowed_start, narrowed_few, turn_start, turn_next, turn_falls, narrowed_pivot, narrowed_empty, narrowed_refuted, narrowed_end}
 use Rattle.probe.proofs.OneWord.{opened_at, opened_fit, told_all}
 use Rattle.probe.proofs.narrow.eliminate.Given.{Over}
 use Rattle.probe.proofs.narrow.eliminate.Goals as goal
@@ -34,7 +35,7 @@ pub loop-pivot-init : goal.loop-pivot-init
 loop-pivot-init g c =
     let b = c.args.basis.now in
     let here = (goal.at.loop-pivot-init g c).After-opened-left in
-    let fit : Fit b.atoms c.opened-left.result = rw (opened g here) (opened_fit b c.args.masks.now c.loop-row.row-iterator.next (given g here).below) in
+    let fit : NarrowFit b.atoms c.opened-left.result = rw (opened g here) (opened_fit b c.args.masks.now c.loop-row.row-iterator.next (given g here).below) in
     λ rows dir. turn_start b.atoms rows c.opened-left.result fit
 
 pub pivot_of-requires : goal.pivot_of-requires
@@ -72,7 +73,7 @@ pub returns-then-left-eq1 : goal.returns-then-left-eq1
 returns-then-left-eq1 g c =
     let b = c.args.basis.now in
     told_all b c.args.masks.now _
-    (narrowed_refuted _ _ c.loop-row.invariant.narrowed (opened g (goal.at.returns-then-left-eq1 g c).After-opened-left) (c.loop-pivot.invariant _ c.loop-row.invariant.narrowed.directory) (search rules)
+    (narrowed_refuted b.atoms (opened_at b c.args.masks.now) c.loop-row.invariant.narrowed (opened g (goal.at.returns-then-left-eq1 g c).After-opened-left) (c.loop-pivot.invariant _ c.loop-row.invariant.narrowed.directory) (search rules)
     c.in_default.ensures b.rank (given g (goal.at.returns-then-left-eq1 g c).After-opened-left).below (omega arith) c.if-left-eq1.true)
 
 pub loop-row-preserved : goal.loop-row-preserved
@@ -93,4 +94,4 @@ returns g c =
     let b = c.args.basis.now in
     let so = c.loop-row.invariant in
     let all = ordered_none c.loop-row.row-iterator c.next.new.self b so.ordered c.in-None.ensures.steps in
-    told_all b c.args.masks.now _ (narrowed_end _ _ so.narrowed ∙ ap (λ (j : ℕ). told_so (after b.atoms (opened_at b c.args.masks.now) j)) all)
+    told_all b c.args.masks.now _ (narrowed_end _ _ so.narrowed ∙ ap (λ (j : ℕ). told_forward (after b.atoms (opened_at b c.args.masks.now) j)) all)

@@ -1,36 +1,33 @@
-use Rattle.std.proofs.Common.{sym, length, arith}
+-- What the checks leave of what is lent, and what the touched rows come to.
+use Rattle.std.proofs.Common.{arith}
 use Rattle.inspect.specs.Inspect.{filled}
-use Rattle.inspect.proofs.Fits.{Fits, checked_fits}
+use Rattle.inspect.proofs.Fits.{checked_fits}
 use Rattle.inspect.proofs.Inspecting.{Collected, wrong_is, applied_is, applicable, fits_named}
-use Rattle.inspect.proofs.inspect.Goals as goal
-use Rattle.inspect.proofs.inspect.Goals.{In_ok-check, After-collect_touched}
+use Rattle.inspect.proofs.prepared.PreparedSystem.inspect_fit.Goals as goal
+use Rattle.inspect.proofs.prepared.PreparedSystem.inspect_fit.Goals.{After-collect_touched}
 
--- what the checks leave
-fit : (c : In_ok-check)
-    → let a = c.args in Fits a.system (filled a.rows.now a.constants.now a.basis.now a.index.now) a.region a.known (length a.forced_atoms.now) (length a.forced_values.now)
-fit c = checked_fits _ _ _ _ _ _ (sym c.in_ok-check.ensures)
-
--- and what the touched rows say, collected
+-- what the touched rows say, collected
 collected : (c : After-collect_touched)
     → let a = c.args in
-    Collected a.system (filled a.rows.now a.constants.now a.basis.now a.index.now) a.region a.known a.forced_atoms.now a.forced_values.now c.select-touched.result
+    let p = a.self.now in
+    Collected p.system (filled p.rows.now p.constants.now p.basis.now p.index.now) a.region a.known a.forced_atoms.now a.forced_values.now c.select-touched.result
     c.collect_touched.result c.collect_touched.new.atoms c.collect_touched.new.values
 collected c = record {
-  fine = sym c.in_ok-check.ensures;
+  fine = c.requires;
   sound = c.if-system.false;
   some = c.if-system-eq0.false;
   selected = c.select-touched.ensures;
   gathered = c.collect_touched.ensures;
 }
 
-pub invariant_of-lent : goal.invariant_of-lent
-invariant_of-lent c =
-    let fits = fit (goal.at.invariant_of-lent c).In_ok-check in
+pub invariant_of-basis : goal.invariant_of-basis
+invariant_of-basis c =
+    let fits = checked_fits _ _ _ _ _ _ c.requires in
     record { few = fits.lent.atoms; ranked = omega (arith, fits.ranked); named = fits_named _ _ _ _ _ _ fits }
 
 pub collect_touched-requires : goal.collect_touched-requires
 collect_touched-requires c =
-    let fits = fit (goal.at.collect_touched-requires c).In_ok-check in
+    let fits = checked_fits _ _ _ _ _ _ c.requires in
     (fits.region, fits.same_atoms, fits.atoms_room, fits.values_room)
 
 pub conclude-requires : goal.conclude-requires
