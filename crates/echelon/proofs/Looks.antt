@@ -28,7 +28,18 @@ use Rattle.echelon.proofs.Replaced.{row_at_length, row_kept, at_kept, clean_kept
 use Rattle.echelon.proofs.Onwards.{onward_few}
 use Rattle.echelon.proofs.Turns.{from, worked, Turn, turn_next, turn_falls}
 
--- the lowest atom of a word that is not empty, the words before it being empty
+-- the lowest atom of a set that is not empty
+module _ (n x : ℕ) (some_atom : 0 < x) (fits : x < 2 ^ n) where
+  pub set_below : low x < n
+  set_below = has_below n x (low x) fits (low_lowest x some_atom).0
+
+  pub set_lowest : (c : Bool) → Lowest (record { atoms = atoms_of n x; constant = c }) (low x)
+  set_lowest c = record {
+    own = atoms_has n x (low x) set_below ∙ (low_lowest x some_atom).0;
+    below = λ b h. atoms_none n x b ((low_lowest x some_atom).1 b h);
+  }
+
+-- and of a word, the words before it being empty
 module _ (n i word : ℕ) (l : List ℕ) (some_atom : 0 < word) (word_fits : word < 2 ^ 64) (fits : from l i word < 2 ^ n) where
   atom : ℕ
   atom = i * 64 + count_trailing_zeros 64 word
@@ -44,16 +55,11 @@ module _ (n i word : ℕ) (l : List ℕ) (some_atom : 0 < word) (word_fits : wor
 
   pub atom_below : i * 64 + count_trailing_zeros 64 word < n
   unfolding atom
-  atom_below = has_below n (from l i word) atom fits (rw low_is at (low_lowest (from l i word) positive).0)
+  atom_below = rw low_is at (set_below n (from l i word) positive fits)
 
   pub atom_lowest : (c : Bool) → Lowest (record { atoms = atoms_of n (from l i word); constant = c }) (i * 64 + count_trailing_zeros 64 word)
   unfolding atom
-  atom_lowest c =
-      let lowest = rw low_is at (low_lowest (from l i word) positive) in
-      record {
-        own = atoms_has n (from l i word) atom atom_below ∙ lowest.0;
-        below = λ b h. atoms_none n (from l i word) b (lowest.1 b h);
-      }
+  atom_lowest c = rw low_is at (set_lowest n (from l i word) positive fits c)
 
   pub atom_word : (i * 64 + count_trailing_zeros 64 word) / 64 ≡ i
   atom_word = omega (arith, (trailing_form 64 word some_atom word_fits).below)

@@ -16,13 +16,12 @@ use lib.Count.{count_trailing_zeros}
 use lib.Pow.{pow_pos}
 use lib.Dec.{eqb}
 use Rattle.std.proofs.lemmas.List.{length-replicate}
-use Rattle.words.specs.Set.{low}
 use Rattle.words.proofs.Lowest.{low_word}
-use Rattle.words.proofs.Meaning.{low_lowest, has_none}
+use Rattle.words.proofs.Meaning.{has_none}
 use Rattle.rows.specs.Row.{Row, add}
 use Rattle.rows.specs.Flat.{atoms_of}
-use Rattle.rows.proofs.Digits.{atoms_xor, atoms_length, atoms_has}
-use Rattle.rows.proofs.Rowwise.{constant_sum, has_below, atoms_none}
+use Rattle.rows.proofs.Digits.{atoms_xor, atoms_length}
+use Rattle.rows.proofs.Rowwise.{constant_sum, atoms_none}
 use Rattle.echelon.specs.Forward.{same_low, empty, find, reduced, joined, State, next}
 use Rattle.echelon.specs.Forward as echelon
 use Rattle.echelon.specs.Promises.{Lowest}
@@ -30,6 +29,7 @@ use Rattle.echelon.specs.Steps.{Onward, rest}
 use Rattle.echelon.proofs.Lows.{same_low_lem, other_low, none_low, find_none, empty_none, has_some, rest_falls}
 use Rattle.echelon.proofs.Left.{refuted_stays}
 use Rattle.echelon.proofs.Directories.{all_listed}
+use Rattle.echelon.proofs.Looks.{set_below, set_lowest}
 use Rattle.echelon.proofs.Solutions.{rank_le}
 use Rattle.echelon.proofs.Onwards.{find_same, onward_start, onward_next, onward_end}
 use Rattle.probe.specs.declared.narrow.NarrowRow.{NarrowRow}
@@ -61,19 +61,11 @@ abbrev pub lowest : NarrowRow → ℕ
 lowest r = count_trailing_zeros 64 r.word
 
 module _ (n word : ℕ) (some : 0 < word) (wide : word < 2 ^ 64) (fits : word < 2 ^ n) where
-  own : (low_of : ℕ) → low word ≡ low_of → count_trailing_zeros 64 word ≡ low_of
-  own a e = sym (low_word 64 word some wide) ∙ e
-
   pub lowest_below : count_trailing_zeros 64 word < n
-  lowest_below = rw (low_word 64 word some wide) at (has_below n word (low word) fits (low_lowest word some).0)
+  lowest_below = rw (low_word 64 word some wide) at (set_below n word some fits)
 
   pub lowest_is : (c : Bool) → Lowest (record { atoms = atoms_of n word; constant = c }) (count_trailing_zeros 64 word)
-  lowest_is c =
-      let is = rw (low_word 64 word some wide) at (low_lowest word some) in
-      record {
-        own = atoms_has n word (count_trailing_zeros 64 word) lowest_below ∙ is.0;
-        below = λ b h. atoms_none n word b (is.1 b h);
-      }
+  lowest_is c = rw (low_word 64 word some wide) at (set_lowest n word some fits c)
 
 no_atom : (n : ℕ) (r : NarrowRow) → r.word ≡ 0 → empty (row_of n r).atoms ≡ true
 no_atom n r e = empty_none (row_of n r) (λ a. atoms_none n r.word a (rw e (has_none a)))
