@@ -66,81 +66,73 @@ plain_prepared plain_prepare(size_t n, size_t m, uint64_t *restrict rows, uint8_
     return told;
 }
 
-/* A row of one word; the pivots stand by their lowest atoms. */
-typedef struct {
-    uint64_t word;
-    uint8_t value;
-} narrow_row;
-
-static plain_probed narrow_probe(plain_probed told, size_t rank, const uint64_t *rows, const uint8_t *constants, const size_t *basis,
-                                 uint64_t held, uint64_t cut, narrow_row *pivots) {
-    for (size_t j = 0; j < rank; j++) {
-        narrow_row left = {rows[basis[j]], constants[basis[j]]};
-        left.value ^= (uint8_t)(__builtin_popcountll(left.word & held) & 1);
-        left.word &= ~(held | cut);
-        while (left.word) {
-            narrow_row *pivot = pivots + __builtin_ctzll(left.word);
-            if (!pivot->word) {
-                *pivot = left;
-                told.kept++;
-                break;
-            }
-            left.word ^= pivot->word;
-            left.value ^= pivot->value;
-        }
-        if (!left.word && left.value) return told;
+/* Rows of W words; the pivots stand by their lowest atoms. */
+#define PROBE(W)                                                                                                                           \
+    typedef struct {                                                                                                                       \
+        uint64_t words[W], value;                                                                                                          \
+    } row_##W;                                                                                                                             \
+    static plain_probed probe_##W(plain_probed told, size_t rank, const uint64_t *rows, const uint8_t *constants,                          \
+                                         const size_t *basis, const uint64_t *held, const uint64_t *cut, row_##W *pivots) {                \
+        for (size_t j = 0; j < rank; j++) {                                                                                                \
+            const uint64_t *words = rows + basis[j] * W;                                                                                   \
+            row_##W left;                                                                                                                  \
+            uint64_t odd = 0;                                                                                                              \
+            for (size_t i = 0; i < W; i++) {                                                                                               \
+                odd ^= words[i] & held[i];                                                                                                 \
+                left.words[i] = words[i] & ~(held[i] | cut[i]);                                                                            \
+            }                                                                                                                              \
+            left.value = constants[basis[j]] ^ (uint64_t)(__builtin_popcountll(odd) & 1);                                                  \
+            bool kept = false;                                                                                                             \
+            for (size_t i = 0; i < W && !kept; i++)                                                                                        \
+                while (left.words[i]) {                                                                                                    \
+                    row_##W *pivot = pivots + 64 * i + (size_t)__builtin_ctzll(left.words[i]);                                             \
+                    if (!pivot->words[i]) {                                                                                                \
+                        *pivot = left;                                                                                                     \
+                        kept = true;                                                                                                       \
+                        break;                                                                                                             \
+                    }                                                                                                                      \
+                    for (size_t k = i; k < W; k++) left.words[k] ^= pivot->words[k];                                                       \
+                    left.value ^= pivot->value;                                                                                            \
+                }                                                                                                                          \
+            if (kept)                                                                                                                      \
+                told.kept++;                                                                                                               \
+            else if (left.value)                                                                                                           \
+                return told;                                                                                                               \
+        }                                                                                                                                  \
+        told.yes = 1;                                                                                                                      \
+        return told;                                                                                                                       \
     }
-    told.yes = 1;
-    return told;
-}
-
-static plain_probed wide_probe(plain_probed told, size_t width, size_t rank, const uint64_t *rows, const uint8_t *constants,
-                               const size_t *basis, const uint64_t *held, const uint64_t *cut) {
-    size_t pivots[512] = {0};
-    uint64_t kept[512][8];
-    uint8_t values[512];
-    for (size_t j = 0; j < rank; j++) {
-        const uint64_t *words = rows + basis[j] * width;
-        uint64_t *row = kept[told.kept], odd = 0;
-        for (size_t i = 0; i < width; i++) {
-            odd ^= words[i] & held[i];
-            row[i] = words[i] & ~(held[i] | cut[i]);
-        }
-        uint8_t value = constants[basis[j]] ^ (uint8_t)(__builtin_popcountll(odd) & 1);
-        for (size_t i = 0;;) {
-            i = lowest_word(row, i, width);
-            if (i == width) {
-                if (value) return told;
-                break;
-            }
-            size_t atom = 64 * i + (size_t)__builtin_ctzll(row[i]);
-            if (!pivots[atom]) {
-                values[told.kept++] = value;
-                pivots[atom] = told.kept;
-                break;
-            }
-            add(row, kept[pivots[atom] - 1], i, width);
-            value ^= values[pivots[atom] - 1];
-        }
-    }
-    told.yes = 1;
-    return told;
-}
+PROBE(1)
+PROBE(2)
+PROBE(3)
+PROBE(4)
+PROBE(5)
+PROBE(6)
+PROBE(7)
+PROBE(8)
 
 plain_probed plain_probe(size_t n, size_t rank, const uint64_t *rows, const uint8_t *constants, const size_t *basis, const uint64_t *held,
                          const uint64_t *cut) {
     size_t width = (n + 63) / 64;
     plain_probed told = {.undecided = n};
     for (size_t i = 0; i < width; i++) told.undecided -= (size_t)__builtin_popcountll(held[i] | cut[i]);
-    if (n <= 8) {
-        narrow_row pivots[8] = {0};
-        return narrow_probe(told, rank, rows, constants, basis, held[0], cut[0], pivots);
+    switch (n <= 8 ? 0 : width) {
+#define PIVOTS(width, W, N)                                                                 \
+    case width: {                                                                           \
+        row_##W pivots[N] = {0};                                                            \
+        return probe_##W(told, rank, rows, constants, basis, held, cut, pivots);            \
     }
-    if (n <= 64) {
-        narrow_row pivots[64] = {0};
-        return narrow_probe(told, rank, rows, constants, basis, held[0], cut[0], pivots);
+        PIVOTS(0, 1, 8)
+        PIVOTS(1, 1, 64)
+        PIVOTS(2, 2, 128)
+        PIVOTS(3, 3, 192)
+        PIVOTS(4, 4, 256)
+        PIVOTS(5, 5, 320)
+        PIVOTS(6, 6, 384)
+        PIVOTS(7, 7, 448)
+        PIVOTS(8, 8, 512)
     }
-    return wide_probe(told, width, rank, rows, constants, basis, held, cut);
+    return told;
 }
 
 enum { LIMIT = 512, MASK_WORDS = 8 };

@@ -14,6 +14,7 @@ import types
 import reading
 
 EDGES = (0, 1, 2, 63, 64, 65, 127, 128, 129, 511, 512)
+WIDTHS = (*EDGES, 192, 193, 256, 257, 320, 321, 384, 385, 448, 449)  # both sides of each width of a row
 LIMIT = 65536
 
 
@@ -587,12 +588,12 @@ def column_case(rng, number):
 # Decisions, touched rows, inspections and probes, and runs of them
 
 
-def lent_sizes(rng, number):
+def lent_sizes(rng, number, atoms=EDGES):
     """Small sizes, and all pairs of borders."""
     if number % 2:
         return rng.randint(0, 8), rng.randint(0, 8)
     at = number // 2
-    return EDGES[at % len(EDGES)], EDGES[at // len(EDGES) % len(EDGES)]
+    return atoms[at % len(atoms)], EDGES[at // len(atoms) % len(EDGES)]
 
 
 def narrow(rng, state):
@@ -681,7 +682,7 @@ def spoil_probe(rng, state, fault):
 
 def probe_case(rng, number):
     """A probe of a small system or of one of all pairs of borders: fit, with a fault or with two, at times with a longer buffer."""
-    state = probed_system(rng, *lent_sizes(rng, number))
+    state = probed_system(rng, *lent_sizes(rng, number, WIDTHS))
     settle(rng, state)
     if rng.random() < 0.2:
         state.short[rng.choice(("rows", "constants", "basis"))] = -1

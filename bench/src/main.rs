@@ -297,13 +297,11 @@ fn main() {
         prepares(&format!("prepare, n = 512, m = {count}, dense"), &system(512, count, None), 2);
         prepares(&format!("prepare, n = {count}, m = 512, dense"), &system(count, 512, None), 2);
     }
-    for size in [64, 128, 256, 512] {
-        let input = system(size, size, None);
-        probes(&format!("probe, n = m = {size}, dense, all open"), &input, &input.settled(0..0), 512 / size);
-    }
-    for count in [64, 128, 256] {
-        let input = system(512, count, None);
-        probes(&format!("probe, n = 512, m = {count}, dense, all open"), &input, &input.settled(0..0), 2);
+    for (n, m) in [(64, 64), (128, 128), (256, 256), (512, 512), (512, 64), (512, 128), (512, 256)] {
+        let input = system(n, m, None);
+        probes(&format!("probe, n = {n}, m = {m}, dense, all open"), &input, &input.settled(0..0), 512 / m);
+        probes(&format!("probe, n = {n}, m = {m}, dense, one decided"), &input, &input.settled(0..1), 512 / m);
+        probes(&format!("probe, n = {n}, m = {m}, dense, half decided"), &input, &input.settled((0..n).step_by(2)), 1);
     }
 }
 

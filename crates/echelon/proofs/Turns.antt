@@ -63,7 +63,7 @@ from_xor l r i v u e lv lu =
 
 -- ---- the row under work
 
-set_fits : (ws : List ℕ) (i v : ℕ) → WordsFit ws → v < 2 ^ 64 → WordsFit (set ws i v)
+pub set_fits : (ws : List ℕ) (i v : ℕ) → WordsFit ws → v < 2 ^ 64 → WordsFit (set ws i v)
 set_fits [] i v f h j = f j
 set_fits (x ∷ ws) zero v f h zero = h
 set_fits (x ∷ ws) zero v f h (suc j) = f (suc j)

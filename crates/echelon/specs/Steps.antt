@@ -1,5 +1,5 @@
--- What the private functions of `echelon` ask and do, for their contracts alone: no reader has to believe it, since no public contract
--- cites it.
+-- What the private functions of `echelon` ask and do, for their contracts and for those of `probe` alone: no reader has to believe it, since no public
+-- contract cites it.
 use Rattle.std.specs.Prelude.{ℕ, suc, ◌+◌, ◌*◌, ◌/◌, ◌^◌, ◌≤◌, ◌<◌, ◌≡◌, Bool, true, false, cond, length, get_or, take, drop, min, eqb, Option, MatchOption}
 use mathlib.Core.List.{List, [], ◌∷◌, ◌++◌, zip_with}
 use Rattle.std.proofs.Math.Option.{none, some}

@@ -25,8 +25,7 @@ const NONE: Pivot = Pivot {
 };
 
 // For each atom its pivot. An atom without one has `NONE` and no Option, which is a third word an entry to clear and to read: the same loops with it,
-// tried in Rust, took 1.05 to 1.44 of the time where no row is added and 1.07 to 1.15 in a preparation, at 3 to 512 atoms. At 128 to 512
-// atoms a probe that adds no row takes 0.95 to 1.15 of the time of C with the same checks; with an Option it would fall further behind.
+// tried in Rust, took 1.05 to 1.44 of the time where no row is added and 1.07 to 1.15 in a preparation, at 3 to 512 atoms.
 #[derive(Clone, Copy)]
 pub struct Directory<const N: usize> {
     pub pivots: [Pivot; N],

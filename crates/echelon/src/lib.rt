@@ -1,7 +1,7 @@
 // Forward elimination in place: the first part of `prepare` of parity.rs, over flat lent words.
 #![tactic(auto)]
 
-ghost use Rattle.std.specs.Prelude.{◌≡◌, Ok, ℕ, ◌*◌, ◌≤◌, ◌<◌, min, length};
+ghost use Rattle.std.specs.Prelude.{◌≡◌, Ok, ◌*◌, ◌≤◌};
 ghost use Rattle.rows.specs.Flat.{width_of};
 ghost use Rattle.echelon.specs.Forward.{eliminated};
 ghost use Rattle.echelon.specs.Eliminate.{rows_to, written, outcome, eliminate_check, eliminate_of};
@@ -28,8 +28,8 @@ pub struct Eliminated {
 }
 
 // Reduces the rows in order, with a directory for N atoms. The first rows, as long as each is left as it is, have a loop of their own, which keeps all it
-// needs in registers: in a probe of more than 64 atoms that adds no row these are all. Inlined for each size, the compiled code kept less there. (By number: a row is reduced by
-// rows before it in the same memory, and the basis is a lent list whose next place `rank` says.)
+// needs in registers: inlined for each size, the compiled code kept less there. (By number: a row is reduced by rows before it in the same memory, and the
+// basis is a lent list whose next place `rank` says.)
 #[inline(never)]
 fn eliminate_rows<const N: usize>(
     shape: Shape,

@@ -1,31 +1,26 @@
 -- The row that an ordinal names, and the ordinal's place in a column.
-use Prim.Native.Nat.{ℕ, ◌+◌, ◌*◌, ◌/◌, ◌%◌, ◌^◌, ◌≤◌, ◌<◌, min}
+use Prim.Native.Nat.{ℕ, ◌*◌, ◌/◌, ◌%◌, ◌^◌, ◌≤◌, ◌<◌, min}
 use mathlib.Core.Path.{◌≡◌, sym, ap, ◌∙◌}
 use mathlib.Core.List.{List}
 use mathlib.Core.Bool.{Bool, cond}
 use native.Mathlib.Nat.{mod-add-div'}
 use native.Mathlib.Omega.{arith}
-use borrow.Author.Tests.{lt-ltb, le-leb}
+use borrow.Author.Tests.{lt-ltb}
 use lib.ListN.{length, get_or}
 use Rattle.std.specs.Prelude.{Some, None}
 use lib.Pow.{pow-add}
 use Rattle.words.specs.declared.Place.{Place}
 use Rattle.words.specs.Calls.{place_of}
-use Rattle.rows.specs.Flat.{width_of, row}
-use Rattle.rows.specs.Calls.{source_of, part_of, row_of}
+use Rattle.rows.specs.Flat.{width_of}
+use Rattle.rows.specs.Calls.{source_of}
 use Rattle.fit.proofs.Fitting.{Fit}
 use Rattle.rows.proofs.Adding.{earlier}
 use Rattle.parity.specs.Named.{Named}
 use Rattle.rows.specs.declared.Ordinal.{Ordinal}
-use Rattle.rows.specs.declared.Source.{Source}
 
 pub source_named : (ps : List ℕ) (j : Ordinal) → j.0 < length ps → source_of ps j ≡ Some (record { 0 = get_or ps j.0 0 })
 unfolding source_of
 source_named ps j h = ap (λ (t : Bool). cond t (Some (record { 0 = get_or ps j.0 0 })) None) (lt-ltb j.0 (length ps) h)
-
-pub row_named : (w : ℕ) (ws : List ℕ) (s : Source) → s.0 * w + w ≤ length ws → row_of w ws s ≡ Some (row w ws s.0)
-unfolding part_of
-row_named w ws s h = ap (λ (t : Bool). cond t (Some (row w ws s.0)) None) (le-leb (s.0 * w + w) (length ws) h)
 
 -- bit j mod 64 of word j div 64 is the ordinal's mark
 pub ordinal_mark : (p : Place) (j : ℕ) → p ≡ place_of j → p.bit * 2 ^ (p.word * 64) ≡ 2 ^ j

@@ -27,9 +27,6 @@ basis_next n ws cs ps j h =
     ap (λ (k : ℕ). basis_of n ws cs (take k ps)) (add-one j) ∙ ap (basis_of n ws cs) (take-suc ps j 0 h)
     ∙ map-append (row_at n (width_of n) ws cs) (take j ps) (get_or ps j 0 ∷ [])
 
-pub width_few : (n : ℕ) → n ≤ 512 → width_of n ≤ 8
-width_few n h = omega arith
-
 -- after j turns: the columns have the bits of the first j basis rows, whatever the constants
 pub record Upto (n stride : ℕ) (ws ps index : List ℕ) (total j : ℕ) : Type 0 where
   pub kept : length index ≡ n * stride

@@ -29,12 +29,12 @@ impl<'a> Basis<'a> {
         ensures { MatchOption result (self.now.rank ≤ ordinal.0) (λ row. (ordinal.0 < self.now.rank) × IsRow self.now ordinal.0 row) }
     {
         let source = self.source(ordinal)?;
-        let words = rows::row(self.rows, rows::width(self.atoms), source)?;
-        let constant = self.constants[source.0];
+        let width = rows::width(self.atoms);
+        let start = source.0 * width;
         Some(BasisRow {
             ordinal,
-            words,
-            constant,
+            words: &self.rows[start..start + width],
+            constant: self.constants[source.0],
         })
     }
 

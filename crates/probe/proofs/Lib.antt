@@ -7,7 +7,7 @@ pub mod Probing
 pub mod Counted
 pub mod Agreed
 pub mod Opening
-pub mod Eliminating
-pub mod Narrowing
-pub mod OneWord
+pub mod OpenRows
+pub mod Reducing
+pub mod OpenedRows
 pub mod Independent

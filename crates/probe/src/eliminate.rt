@@ -1,18 +1,14 @@
 // Elimination over the open atoms: "Basis rows in order, decided atoms taken out, each held one flipping the constant."
-// Rows of one word are reduced in a register (narrow.rt). Wider ones are written into memory of the probe's own, and `echelon` eliminates them there.
-// Both stop at a lowest atom without a pivot, where document 01 adds every row kept; as many rows are kept, and no is said at the same row
-// (proofs/Agreed.antt).
-ghost use Rattle.std.specs.Prelude.{◌≡◌, Ok, ◌*◌, ◌%◌, ◌≤◌, ◌<◌, min, length};
-ghost use mathlib.Core.List.{zip_with};
-ghost use Rattle.std.specs.Int.Bits.{bit_and};
-ghost use Rattle.std.specs.Int.Count.{ones};
-ghost use Rattle.words.specs.Set.{set_of};
+// A row is reduced as a value, by a table of whole pivots, and stops at a lowest atom without one, where document 01 adds every row kept; as many rows are kept,
+// and no is said at the same row (proofs/Agreed.antt).
+ghost use Rattle.std.specs.Prelude.{◌≡◌, ◌≤◌, ◌<◌};
 ghost use Rattle.rows.specs.Flat.{width_of};
-ghost use Rattle.probe.specs.Steps.{Room, Opened, ToldOf};
+ghost use Rattle.probe.specs.Steps.{ToldOf};
 
-use crate::narrow;
+use crate::open_row::OpenRow;
+use crate::pivots::Pivots;
 use inspect::Masks;
-use parity::{Basis, BasisRow};
+use parity::Basis;
 
 // How many rows are kept, and whether none was left empty with constant 1. The number counts on no too, so it stands beside the flag. (Not `echelon`'s
 // own: its additions count for nothing here, and its flag says the contrary.)
@@ -22,100 +18,72 @@ pub struct Eliminated {
     pub sound: bool,
 }
 
-// Writes the open atoms of a row, and gives back the parity of its held ones. (By place: tried, after `iter_mut` with `zip` a proof knows the length of
-// what was written, and not the entries.)
-fn split(masks: &Masks, row: &BasisRow, left: &mut [u64]) -> u8
-    requires { length left.old ≡ length row.now.words.now }
-    ensures left { left.new ≡ zip_with bit_and row.now.words.now masks.now.free }
-    ensures parity { result ≡ ones (bit_and (set_of row.now.words.now) (set_of masks.now.held)) % 2 }
-    ensures wide { length masks.now.free ≡ 8 }
+// What is told of basis rows of W words. (By `while`: each addition says whether there is another. The word under work stands in a local too, and only words from it
+// on are added. Three loops in one function: the contract of one of its own would want what the proof knows of pivots in specs/. With no atom the width is
+// 0, and there is no row.)
+fn eliminate_rows<const W: usize, const N: usize>(basis: &Basis, masks: &Masks) -> Eliminated
+    requires width { (0 < basis.now.rank → width_of basis.now.atoms ≡ W) × (W ≤ 8) }
+    requires atoms { (basis.now.atoms ≤ N) × (N ≤ 512) }
+    ensures { ToldOf basis.now masks.now result }
 {
-    let mut sum = 0u64;
-    for (i, word) in row.words.iter().enumerate() {
-        left[i] = word & masks.free[i];
-        sum ^= word & masks.held[i];
-    }
-    (sum.count_ones() % 2) as u8
-}
-
-// "Basis rows in order, decided atoms taken out, each held one flipping the constant", written into the memory. (Basis and masks are no one struct: the
-// one is of what is lent, the other of a region.)
-fn substitute_all(basis: &Basis, masks: &Masks, left: &mut [u64], constants: &mut [u8])
-    requires { Room basis.now.atoms basis.now.rank left.old constants.old }
-    ensures { Opened basis.now.atoms masks.now.held masks.now.free basis.now.rows.now basis.now.constants.now basis.now.entries.now left.new constants.new basis.now.rank }
-{
-    let width = rows::width(basis.atoms);
+    let mut pivots = Pivots::<W, N>::none();
+    let mut kept = 0;
     for row in basis.in_order() {
-        let start = row.ordinal.0 * width;
-        let flips = split(masks, &row, &mut left[start..start + width]);
-        constants[row.ordinal.0] = row.constant ^ flips;
+        let mut left = OpenRow::<W>::of(&row, masks);
+        let mut lowest = None;
+        for i in 0..W {
+            let mut word = left.words[i];
+            while let Some(pivot) = pivots.pivot_of(i, word) {
+                word ^= pivot.words[i];
+                left.add_from(i, pivot);
+            }
+            if word != 0 {
+                lowest = Some(i * 64 + word.trailing_zeros() as usize);
+                break;
+            }
+        }
+        match lowest {
+            Some(atom) => {
+                pivots.enter(atom, left);
+                kept += 1;
+            }
+            None => {
+                if left.constant == 1 {
+                    return Eliminated { kept, sound: false };
+                }
+            }
+        }
     }
+    Eliminated { kept, sound: true }
 }
 
-// The basis rows over the open atoms, in memory that has room for them and for their pivots.
-fn eliminate_with(
-    basis: &Basis,
-    masks: &Masks,
-    left: &mut [u64],
-    constants: &mut [u8],
-    pivots: &mut [usize],
-) -> Eliminated
-    requires room { Room basis.now.atoms basis.now.rank left.old constants.old }
-    requires pivots { min basis.now.rank basis.now.atoms ≤ length pivots.old }
-    ensures { ToldOf basis.now masks.now result }
-{
-    substitute_all(basis, masks, left, constants);
-    let done = echelon::eliminate(basis.atoms, basis.rank, left, constants, pivots).unwrap();
-    Eliminated {
-        kept: done.rank,
-        sound: !done.refuted,
-    }
-}
-
-// The same in memory of its own, for so many words and rows: three arrays, which `echelon` is lent apart. (Not inlined: a probe that needs the least
-// memory would lay out the most.)
+// What is told of basis rows of two words or more: their width is known to the compiler, which unrolls what is done for each word. (Not inlined, and by value:
+// where the rows are of one word, neither basis nor masks are then written to memory.)
 #[inline(never)]
-fn eliminate_in<const WORDS: usize, const ROWS: usize>(basis: &Basis, masks: &Masks) -> Eliminated
-    requires words { basis.now.rank * width_of basis.now.atoms ≤ WORDS }
-    requires rows { basis.now.rank ≤ ROWS }
-    requires small { (WORDS ≤ 4096) × (ROWS ≤ 512) }
-    ensures { ToldOf basis.now masks.now result }
-{
-    let mut left = [0u64; WORDS];
-    let mut constants = [0u8; ROWS];
-    let mut pivots = [0usize; ROWS];
-    eliminate_with(basis, masks, &mut left, &mut constants, &mut pivots)
-}
-
-// The same in as much memory as the rows need, since it is cleared first: above 64 atoms a row has two words or more, so that 256 words are at most 128 rows,
-// and 1,024 at most 256. (Not inlined, and by value: where the rows are of one word, neither basis nor masks are then written to memory.)
-#[inline(never)]
-fn eliminate_wide(basis: Basis, masks: Masks) -> Eliminated
+fn eliminate_by_width(basis: Basis, masks: Masks) -> Eliminated
     requires { 64 < basis.atoms }
     ensures { ToldOf basis.entry masks result }
 {
-    let words = basis.rank * rows::width(basis.atoms);
-    if words <= 256 {
-        return eliminate_in::<256, 128>(&basis, &masks);
+    match rows::width(basis.atoms) {
+        2 => eliminate_rows::<2, 128>(&basis, &masks),
+        3 => eliminate_rows::<3, 192>(&basis, &masks),
+        4 => eliminate_rows::<4, 256>(&basis, &masks),
+        5 => eliminate_rows::<5, 320>(&basis, &masks),
+        6 => eliminate_rows::<6, 384>(&basis, &masks),
+        7 => eliminate_rows::<7, 448>(&basis, &masks),
+        _ => eliminate_rows::<8, 512>(&basis, &masks),
     }
-    if words <= 512 {
-        return eliminate_in::<512, 256>(&basis, &masks);
-    }
-    if words <= 1024 {
-        return eliminate_in::<1024, 256>(&basis, &masks);
-    }
-    eliminate_in::<4096, 512>(&basis, &masks)
 }
 
-// What is told of the basis rows over the open atoms: in a register up to 64 atoms, above that in memory.
+// What is told of the basis rows over the open atoms. (Two sizes for rows of one word: fewer pivots are sooner cleared.)
 pub fn eliminate(basis: Basis, masks: Masks) -> Eliminated
     ensures { ToldOf basis.entry masks result }
 {
     if basis.atoms <= 8 {
-        return narrow::eliminate::<8>(&basis, &masks);
+        return eliminate_rows::<1, 8>(&basis, &masks);
     }
     if basis.atoms <= 64 {
-        return narrow::eliminate::<64>(&basis, &masks);
+        return eliminate_rows::<1, 64>(&basis, &masks);
     }
-    eliminate_wide(basis, masks)
+    eliminate_by_width(basis, masks)
 }

@@ -16,7 +16,8 @@ use region::Region;
 
 mod checks;
 mod eliminate;
-mod narrow;
+mod open_row;
+mod pivots;
 pub mod promises;
 
 // What the probe answers: yes or no, u (the atoms neither held nor cut) and k (the rows kept). The counts stand on no as on yes, so a flag is

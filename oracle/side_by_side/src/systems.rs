@@ -15,7 +15,7 @@ pub struct Made {
 }
 
 const BOUNDS: [usize; 12] = [0, 1, 2, 5, 62, 63, 64, 65, 66, 127, 128, 129];
-const LARGE: [usize; 8] = [512, 512, 511, 510, 385, 256, 65, 3];
+const LARGE: [usize; 14] = [512, 512, 511, 449, 448, 385, 384, 321, 320, 257, 256, 193, 65, 3];
 
 fn sizes(random: &mut Random) -> (usize, usize) {
     match random.below(100) {

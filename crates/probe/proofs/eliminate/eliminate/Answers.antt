@@ -1,9 +1,9 @@
--- As many pivots as atoms, or more.
+-- Up to 64 atoms a row is one word: where there is a row there is an atom.
 use Rattle.std.proofs.Common.{arith}
 use Rattle.probe.proofs.eliminate.eliminate.Goals as goal
 
-pub eliminate-requires : goal.eliminate-requires
-eliminate-requires c = (c.if-basis-le8.true, omega arith)
+pub eliminate_rows-requires-clause-width : goal.eliminate_rows-requires-clause-width
+eliminate_rows-requires-clause-width c = (λ some. omega (arith, c.args.basis.ranked), omega arith)
 
-pub eliminate-requires-then-basis-le64 : goal.eliminate-requires-then-basis-le64
-eliminate-requires-then-basis-le64 c = (c.if-basis-le64.true, omega arith)
+pub eliminate_rows-requires-then-basis-le64-clause-width : goal.eliminate_rows-requires-then-basis-le64-clause-width
+eliminate_rows-requires-then-basis-le64-clause-width c = (λ some. omega (arith, c.args.basis.ranked), omega arith)
