@@ -1,4 +1,4 @@
-//! Compiles plain.c and calls.c for the processor that the library is built for, and echelonize.c where M4RI is at hand.
+//! Compiles plain.c and calls.c for the processor that the library is built for, and echelonize.c where M4RI is at hand. Links crates/once_c.
 use std::path::PathBuf;
 use std::process::Command;
 
@@ -24,6 +24,8 @@ fn main() {
     for source in ["plain.c", "calls.c"] {
         println!("cargo::rustc-link-arg={}", compile(source).expect("cc compiles it").display());
     }
+    println!("cargo::rerun-if-changed=../target/staticlib/libonce.a");
+    println!("cargo::rustc-link-arg=../target/staticlib/libonce.a");
     if let Some(echelonize) = compile("echelonize.c") {
         println!("cargo::rustc-link-arg={}", echelonize.display());
         println!("cargo::rustc-link-arg=-lm4ri");

@@ -151,9 +151,13 @@ fn inspects(name: &str, input: &Input, region: &raw::Region, known: Option<&raw:
     let (rust_system, flat, system) = prepared(input);
     let lent = Lent { system, flat: &flat };
     let mut rust = RustInspect::new(&rust_system, region, known, calls);
-    let mut ours = OurInspect::new(&lent, region, known, calls);
-    rust.run();
-    ours.run();
+    let before = known_of(known);
+    let [mut ours, mut plain, mut checking] =
+        [inspect(), inspect_plainly(), inspect_checking()].map(|call| FlatInspect::new(call, &lent, region, &before, calls));
+    let sides: [&mut dyn Side; 4] = [&mut rust, &mut ours, &mut plain, &mut checking];
+    sides.into_iter().for_each(|side| side.run());
+    assert!(ours.left() == plain.left(), "plain C differs");
+    assert!(ours.left() == checking.left(), "checking C differs");
     let told = ours.told;
     assert_eq!(rust.told, (told.kind, told.held as u64, told.cut as u64));
     let (after, (initialized, words)) = rust.after();
@@ -162,8 +166,15 @@ fn inspects(name: &str, input: &Input, region: &raw::Region, known: Option<&raw:
     assert!(initialized == told.known.initialized && told.known.held[..held.len()] == *held, "knowledge differs");
     assert!(told.known.cut[..cut.len()] == *cut, "knowledge differs");
     let touched = rust_system.touched(&rust_region(region), known.map(rust_region).as_ref()).len();
-    let [rust, ours] = best(calls, [&mut rust, &mut ours]);
-    line(&format!("{name} ({touched} of {} rows touched)", system.rank), Times { rust, ours, ..Default::default() });
+    let [rust, plain, ours, checking] = best(calls, [&mut rust, &mut plain, &mut ours, &mut checking]);
+    let times = Times { rust, ours, plain: Some(plain), checking: Some(checking), m4ri: None };
+    let name = format!("{name} ({touched} of {} rows touched)", system.rank);
+    line(&name, times);
+    let (regions, mut atoms, mut values) = ([*region; 512], vec![0; system.rank], vec![0; system.rank]);
+    let mut once = || spend(inspect_once(&lent, black_box(&regions), &before, &mut atoms, &mut values));
+    let [once] = best(regions.len(), [&mut once]);
+    line(&format!("{name}, looked at once"), Times { rust, ours: once, ..Default::default() });
+    assert_eq!(inspect_once(&lent, &regions, &before, &mut atoms, &mut values), (told.held + told.cut) * regions.len());
 }
 
 fn probes(name: &str, input: &Input, region: &raw::Region, calls: usize) {
@@ -204,6 +215,29 @@ fn refusals() {
     let mut stray = flat.clone();
     stray.rows[0] |= 1 << input.atoms;
     probe(&stray, &open, 11);
+    let inspected = |flat: &Flat, system: raw::System, region: &raw::Region, known: &raw::Snapshot, number: usize| {
+        for call in [inspect(), inspect_checking()] {
+            let lent = Lent { system, flat };
+            let mut side = FlatInspect::new(call, &lent, region, known, 1);
+            side.run();
+            assert_eq!(side.told, raw::Inspection { kind: raw::REFUSED, number, region: *region, known: *known, ..Default::default() });
+        }
+    };
+    let fresh = raw::Snapshot::default();
+    let (mut short, mut over, mut other) = (flat.clone(), flat.clone(), open);
+    short.index.truncate(1);
+    over.index[0] |= 1 << system.rank;
+    other.atoms += 1;
+    inspected(&flat, raw::System { rows: 513, ..system }, &open, &fresh, 10);
+    inspected(&flat, raw::System { rank: system.rows.min(system.atoms) + 1, ..system }, &open, &fresh, 13);
+    inspected(&short, system, &open, &fresh, 9);
+    inspected(&stray, system, &open, &fresh, 11);
+    inspected(&flat, system, &above, &fresh, 11);
+    inspected(&flat, system, &clash, &fresh, 12);
+    inspected(&unnamed, system, &open, &fresh, 13);
+    inspected(&over, system, &open, &fresh, 14);
+    inspected(&flat, system, &other, &fresh, 15);
+    inspected(&flat, system, &open, &known_of(Some(&input.settled(0..1))), 16);
     for call in [prepare, prepare_checking] {
         let mut left = stray.clone();
         assert_eq!(call(&input, &mut left), raw::Prepared { number: 11, ..Default::default() });

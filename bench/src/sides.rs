@@ -140,6 +140,7 @@ unsafe extern "C" {
         region: *const raw::Region,
     ) -> raw::Probed;
     fn call_inspect(
+        call: *const (),
         told: *mut raw::Inspection,
         system: *const raw::System,
         rows: *const u64,
@@ -157,6 +158,26 @@ unsafe extern "C" {
         forced_values: *mut u8,
         forced_values_length: usize,
     );
+    fn plain_inspect();
+    fn checked_inspect();
+    fn once_inspect(
+        system: raw::System,
+        rows: *const u64,
+        rows_length: usize,
+        constants: *const u8,
+        constants_length: usize,
+        basis: *const usize,
+        basis_length: usize,
+        index: *const u64,
+        index_length: usize,
+        regions: *const raw::Region,
+        regions_length: usize,
+        known: raw::Snapshot,
+        forced_atoms: *mut usize,
+        forced_atoms_length: usize,
+        forced_values: *mut u8,
+        forced_values_length: usize,
+    ) -> usize;
 }
 
 /// Preparation over lent buffers, by the library or by C.
@@ -372,36 +393,53 @@ pub struct Lent<'a> {
     pub flat: &'a Flat,
 }
 
-/// Inspection by the library; region and knowledge are passed by value, so nothing is restored.
-pub struct OurInspect<'a> {
+/// An inspection by value: `worzubil_inspect`, or one of plain.c of the same type.
+#[derive(Clone, Copy)]
+pub struct Inspect(*const ());
+
+pub fn inspect() -> Inspect {
+    Inspect(raw::worzubil_inspect as *const ())
+}
+
+pub fn inspect_plainly() -> Inspect {
+    Inspect(plain_inspect as *const ())
+}
+
+pub fn inspect_checking() -> Inspect {
+    Inspect(checked_inspect as *const ())
+}
+
+/// Inspection by the library or by C; region and knowledge are taken and given back, so nothing is restored.
+pub struct FlatInspect<'a> {
+    call: Inspect,
     lent: &'a Lent<'a>,
     region: raw::Region,
     known: raw::Snapshot,
-    atoms: Vec<usize>,
-    values: Vec<u8>,
+    pub atoms: Vec<usize>,
+    pub values: Vec<u8>,
     calls: usize,
     pub told: raw::Inspection,
 }
 
-impl<'a> OurInspect<'a> {
-    pub fn new(lent: &'a Lent, region: &raw::Region, known: Option<&raw::Region>, calls: usize) -> Self {
-        let known = known.map_or(raw::Snapshot::default(), |old| raw::Snapshot {
-            initialized: true,
-            atoms: old.atoms,
-            held: old.held,
-            cut: old.cut,
-        });
+impl<'a> FlatInspect<'a> {
+    pub fn new(call: Inspect, lent: &'a Lent, region: &raw::Region, known: &raw::Snapshot, calls: usize) -> Self {
         let (atoms, values) = (vec![0; lent.system.rank], vec![0; lent.system.rank]);
-        Self { lent, region: *region, known, atoms, values, calls, told: raw::Inspection::default() }
+        Self { call, lent, region: *region, known: *known, atoms, values, calls, told: raw::Inspection::default() }
+    }
+
+    /// What it told, and the forced list.
+    pub fn left(&self) -> (&raw::Inspection, &[usize], &[u8]) {
+        (&self.told, &self.atoms[..self.told.forced], &self.values[..self.told.forced])
     }
 }
 
-impl Side for OurInspect<'_> {
+impl Side for FlatInspect<'_> {
     fn run(&mut self) {
         let Lent { system, flat } = self.lent;
         for _ in 0..self.calls {
             unsafe {
                 call_inspect(
+                    self.call.0,
                     &mut self.told,
                     system,
                     flat.rows.as_ptr(),
@@ -422,6 +460,36 @@ impl Side for OurInspect<'_> {
             }
         }
     }
+}
+
+/// An inspection of each region, over a system looked at once, by crates/once_c; how many atoms were decided in all.
+pub fn inspect_once(lent: &Lent, regions: &[raw::Region], known: &raw::Snapshot, atoms: &mut [usize], values: &mut [u8]) -> usize {
+    let Lent { system, flat } = lent;
+    unsafe {
+        once_inspect(
+            *system,
+            flat.rows.as_ptr(),
+            flat.rows.len(),
+            flat.constants.as_ptr(),
+            flat.constants.len(),
+            flat.basis.as_ptr(),
+            flat.basis.len(),
+            flat.index.as_ptr(),
+            flat.index.len(),
+            regions.as_ptr(),
+            regions.len(),
+            *known,
+            atoms.as_mut_ptr(),
+            atoms.len(),
+            values.as_mut_ptr(),
+            values.len(),
+        )
+    }
+}
+
+/// The knowledge that a region leaves, or none.
+pub fn known_of(old: Option<&raw::Region>) -> raw::Snapshot {
+    old.map_or(raw::Snapshot::default(), |old| raw::Snapshot { initialized: true, atoms: old.atoms, held: old.held, cut: old.cut })
 }
 
 /// The probes change nothing.

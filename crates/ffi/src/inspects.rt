@@ -121,7 +121,8 @@ impl From<(Result<(), Refusal>, Snapshot)> for Published {
 }
 
 // An inspection's answer; where it is refused, with region and knowledge as they were passed. (No From: these two are the caller's, and the triple that
-// it would be of would be built for this one call.)
+// it would be of would be built for this one call. Not inlined: the compiled code then copies region and knowledge fewer times.)
+#[inline(never)]
 fn inspected(answer: Result<Inspected, Refusal>, region: Region, known: Snapshot) -> Inspection
     ensures { result ≡ inspected_answer region known answer }
 {

@@ -8,6 +8,25 @@ use lib.Arith.{lt_of_le-ne}
 use lib.Dec.{eqb}
 use Rattle.std.proofs.lemmas.Bool.{or_right}
 
+abbrev pub among : (ℕ → Bool) → ℕ → Bool
+among one zero = false
+among one (suc m) = among one m || one m
+
+pub among_same : (f g : ℕ → Bool) (m : ℕ) → ((r : ℕ) → r < m → f r ≡ g r) → among f m ≡ among g m
+among_same f g zero each = refl
+among_same f g (suc m) each = ap₂ ◌||◌ (among_same f g m (λ r h. each r (omega arith))) (each m (omega arith))
+
+-- one of two things
+pub among_either : (f g : ℕ → Bool) (m : ℕ) → among (λ (r : ℕ). f r || g r) m ≡ (among f m || among g m)
+among_either f g zero = refl
+among_either f g (suc m) = ap (λ (t : Bool). t || (f m || g m)) (among_either f g m) ∙ cross (among f m) (among g m) (f m) (g m)
+  where
+    cross : (a b p q : Bool) → ((a || b) || (p || q)) ≡ ((a || p) || (b || q))
+    cross true b p q = refl
+    cross false true true q = refl
+    cross false true false q = refl
+    cross false false p q = refl
+
 module _ (any one : ℕ → Bool) (start : any 0 ≡ false) (more : (m : ℕ) → any (suc m) ≡ (any m || one m)) where
   pub any_found : (m r : ℕ) → r < m → one r ≡ true → any m ≡ true
   any_found zero r h this = let z : ⊥ = omega arith in absurd z
@@ -27,3 +46,7 @@ module _ (any one : ℕ → Bool) (start : any 0 ≡ false) (more : (m : ℕ) �
   pub any_none : (m : ℕ) → ((r : ℕ) → r < m → one r ≡ false) → any m ≡ false
   any_none zero each = start
   any_none (suc m) each = more m ∙ ap₂ ◌||◌ (any_none m (λ r l. each r (omega arith))) (each m (omega arith))
+
+  pub any_among : (m : ℕ) → any m ≡ among one m
+  any_among zero = start
+  any_among (suc m) = more m ∙ ap (λ (t : Bool). t || one m) (any_among m)

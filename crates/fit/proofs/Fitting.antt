@@ -1,10 +1,9 @@
 -- What lent rows that no number refuses have: the bounds, no atom from n on, no constant above 1. And checks that join more to these.
-use Prim.Native.Nat.{ℕ, suc, ◌+◌, ◌*◌, ◌^◌, ◌≤◌, ◌<◌}
-use mathlib.Core.Path.{◌≡◌, refl, ap, ap₂, ◌∙◌}
+use Prim.Native.Nat.{ℕ, suc, ◌*◌, ◌^◌, ◌≤◌, ◌<◌}
+use mathlib.Core.Path.{◌≡◌, refl, ap₂}
 use mathlib.Core.List.{List, [], ◌∷◌}
 use mathlib.Core.Bool.{Bool, true, false, cond, ◌||◌, or-false}
 use Rattle.std.specs.Prelude.{Result, Ok, Err}
-use native.Mathlib.Numerals.{add-one}
 use native.Mathlib.Omega.{arith}
 use borrow.Author.Tests.{leb-false, ltb-false, lt-leb, le-ltb}
 use lib.ListN.{length, get_or}
@@ -36,12 +35,9 @@ module _ (n w : ℕ) (ws cs : List ℕ) where
   unfolding strays
   strays_start = refl
 
-  strays_more : (m : ℕ) → strays n w ws cs (suc m) ≡ (strays n w ws cs m || row_strays m)
+  pub strays_more : (m : ℕ) → strays n w ws cs (suc m) ≡ (strays n w ws cs m || row_strays m)
   unfolding strays
   strays_more m = refl
-
-  pub strays_step : (r : ℕ) → strays n w ws cs (r + 1) ≡ (strays n w ws cs r || row_strays r)
-  strays_step r = ap (strays n w ws cs) (add-one r) ∙ strays_more r
 
   pub strays_none : (m : ℕ) → ((r : ℕ) → r < m → (set_of (row w ws r) < 2 ^ n) × (get_or cs r 0 < 2)) → strays n w ws cs m ≡ false
   strays_none m clean =

@@ -2,10 +2,8 @@
 // passed one by one, as C lends them.
 #![tactic(auto)]
 
-ghost use Rattle.std.specs.Prelude.{◌≡◌, ◌+◌, ◌*◌, ◌^◌, ◌≤◌, length, leb};
+ghost use Rattle.std.specs.Prelude.{◌≡◌, ◌*◌, ◌≤◌, length};
 ghost use Rattle.std.specs.Option.{option_copied};
-ghost use Rattle.words.specs.Set.{set_of};
-ghost use Rattle.rows.specs.Flat.{row};
 ghost use Rattle.rows.specs.Calls.{part_of};
 ghost use Rattle.index.specs.Index.{column_width};
 ghost use Rattle.index.specs.Column.{over_rank, column_check, wanted_column};
@@ -28,38 +26,21 @@ pub fn column_at(index: &[u64], width: usize, atom: Atom) -> Option<&[u64]>
     rows::part(index, width, atom.0)
 }
 
-// Whether a column has a bit from the rank on: only its last two words can. (`fit::row_strays` asks the same of rows, where only the last word can;
-// both ask that row or column lies within what is lent.)
-fn overranks(index: &[u64], rank: usize, width: usize, atom: Atom) -> bool
-    requires { (width ≡ column_width rank) × (atom.0 * width + width ≤ length index.now) }
-    ensures { result ≡ leb (2 ^ rank) (set_of (row width index.now atom.0)) }
+// Whether one of the first n columns has a bit from the rank on, which only a column's last two words can have. These are joined, as `fit` joins the last
+// words of rows, and the unions are asked. (The columns lie within, so the defaults never come.)
+fn any_overranks(index: &[u64], rank: usize, width: usize, n: usize) -> bool
+    requires { (width ≡ column_width rank) × (n * width ≤ length index.now) }
+    ensures { result ≡ over_rank rank width index.now n }
 {
     let used = rank % 128;
     if used == 0 {
         return false;
     }
-    let last = atom.0 * width + width - 1;
+    let last = rows::union_at(index, width, width - 1, n).unwrap_or(0);
     if used >= 64 {
-        return index[last] >> (used - 64) != 0;
+        return last >> (used - 64) != 0;
     }
-    if index[last] != 0 {
-        return true;
-    }
-    index[last - 1] >> used != 0
-}
-
-// Whether one of the first n columns has a bit from the rank on: the loop of `fit::any_strays`, over another test and without constants. (By number:
-// columns of no words are no chunks.)
-#[tactic(auto, using(crate::proofs::Overrank::over_start, crate::proofs::Overrank::over_step))]
-fn any_overranks(index: &[u64], rank: usize, width: usize, n: usize) -> bool
-    requires { (width ≡ column_width rank) × (n * width ≤ length index.now) }
-    ensures { result ≡ over_rank rank width index.now n }
-{
-    let mut over = false;
-    for a in 0..n {
-        over |= overranks(index, rank, width, Atom(a));
-    }
-    over
+    last != 0 || rows::union_at(index, width, width - 2, n).unwrap_or(0) >> used != 0
 }
 
 // Whether an atom's column can be given back.

@@ -15,10 +15,8 @@ use Rattle.refusal.specs.declared.Refusal.{Refusal}
 use Rattle.echelon.specs.Forward.{low}
 use Rattle.parity.specs.declared.System.{System}
 use Rattle.region.specs.Masks.{decisions, is_held, is_open}
-use Rattle.region.specs.Calls.{region_check}
 use Rattle.region.specs.declared.Region.{Region}
 use Rattle.region.proofs.Masked.{decisions_length}
-use Rattle.snapshot.specs.Knowledge.{published, publish_of}
 use Rattle.snapshot.specs.Touch.{touched_of, ordinals_of}
 use Rattle.snapshot.specs.declared.Ordinals.{Ordinals}
 use Rattle.snapshot.specs.declared.Snapshot.{Snapshot}
@@ -103,11 +101,6 @@ pub fits_named : (s : System) (l : Filled) (r : Region) (known : Snapshot) (atom
     → Named s.atoms s.rank l.rows l.constants l.basis
 fits_named s l r known atoms values fits =
     named_of s.atoms s.rows s.rank l.rows l.constants l.basis fits.lent fits.ranked fits.entries fits.named
-
--- a fit region is published
-pub publishes : (known : Snapshot) (r : Region) → region_check r ≡ Ok tt → (publish_of known r).1 ≡ published r
-unfolding publish_of
-publishes known r fit = ap (λ check. left check (published r) known) fit
 
 -- ---- the call
 

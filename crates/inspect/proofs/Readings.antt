@@ -17,7 +17,7 @@ use Rattle.rows.specs.Flat.{width_of, row, atoms_of, row_at}
 use Rattle.rows.proofs.Digits.{atoms_overlap}
 use Rattle.echelon.specs.Forward as forward
 use Rattle.std.proofs.lemmas.Nat.{zero_from_ones}
-use Rattle.parity.proofs.Single.{low_atoms}
+use Rattle.parity.proofs.Unit.{low_atoms}
 use Rattle.std.specs.Prelude.{Option, Some, None, Ok, Err}
 use Rattle.inspect.specs.Consequences.{Reading, says_by, reading_of, wrong}
 use Rattle.parity.specs.Named.{Legible}

@@ -117,19 +117,12 @@ impl From<Tally> for Step {
     }
 }
 
-// Publishes the region as it came, and applies the forced list: the first `forced` entries of lists that are lent longer, which `apply` cuts. (What
-// it answers is built by its fields: they come from the batch, the knowledge and the count.)
-fn conclude(
-    region: Region,
-    known: Snapshot,
-    forced: usize,
-    atoms: &[usize],
-    values: &[u8],
-) -> Inspected
+// Publishes the region as it came, which is fit, and applies the forced list: the first `forced` entries of lists that are lent longer, which `apply` cuts.
+// (What it answers is built by its fields: they come from the batch, the region and the count.)
+fn conclude(region: Region, forced: usize, atoms: &[usize], values: &[u8]) -> Inspected
     requires { Applicable region forced atoms.now values.now }
     ensures { result ≡ ended (applied (begun (decisions region)) (forced_in atoms.now values.now forced)) forced region }
 {
-    let (_, learnt) = known.publish(region);
     let applied = apply::apply(region, forced, atoms, values);
     Inspected {
         answer: Step::from(applied.tally),
@@ -137,7 +130,7 @@ fn conclude(
         cut: applied.tally.cut,
         forced,
         region: applied.region,
-        known: learnt,
+        known: Snapshot::from(region),
     }
 }
 

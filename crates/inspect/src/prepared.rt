@@ -157,7 +157,7 @@ impl<'a> PreparedSystem<'a> {
             entries: self.basis,
         };
         match collect::collect_touched(&basis, touched, region, forced_atoms, forced_values) {
-            Ok(forced) => conclude(region, known, forced, forced_atoms, forced_values),
+            Ok(forced) => conclude(region, forced, forced_atoms, forced_values),
             Err(found) => stands(Step::Refuted, found.forced, region, known),
         }
     }

@@ -1,4 +1,4 @@
--- Units written one after another: the turns of `collect_units`.
+-- Units written one after another: the turns of `enter_rows`.
 use Prim.Native.Nat.{ℕ, suc, ◌+◌, ◌≤◌, ◌<◌}
 use mathlib.Core.Path.{◌≡◌, refl, sym, ap, ◌∙◌}
 use mathlib.Core.List.{List, [], ◌∷◌, ◌++◌, append-nil, map, map-append}
@@ -17,10 +17,10 @@ use Rattle.rows.specs.Flat.{width_of, row, row_at}
 use Rattle.echelon.specs.Forward.{low}
 use Rattle.parity.specs.Basis.{basis_of, units_of, unit_atoms_of, unit_values_of}
 use Rattle.parity.specs.Named.{Named}
-use Rattle.parity.specs.Single.{unit_of}
+use Rattle.parity.specs.Unit.{unit_of}
 use Rattle.std.specs.Prelude.{Option, Some, None}
 use Rattle.parity.proofs.Ordinals.{basis_next}
-use Rattle.parity.proofs.Single.{size_row, low_row, value_row, units_snoc}
+use Rattle.parity.proofs.Unit.{size_row, low_row, value_row, units_snoc}
 
 -- ---- one row more, of which an entry is written if it is a unit
 

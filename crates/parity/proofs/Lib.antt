@@ -10,5 +10,5 @@ pub mod Naming
 pub mod Columns
 pub mod InOrder
 pub mod Ordinals
-pub mod Single
+pub mod Unit
 pub mod Collecting

@@ -86,7 +86,7 @@ module _ (n m : ℕ) (l : Lent) (e : prepare_check n m l ≡ Ok tt) where
     refuted_is r =
         whole (told_of n m done.rank done.refuted done.additions 0 0, lent ws cs ps l.unit_atoms l.unit_values l.index) (rw r refl)
 
-    -- what `collect_units` and `build_index` ask
+    -- what `enter_basis` asks
     pub named : Named n done.rank ws cs ps
     unfolding left st
     named = subst (λ (o : Outcome Eliminated). Named n o.result.rank o.rows o.constants o.basis) (sym left_is) (left_named n m l.rows l.constants l.basis room.fit.atoms room.basis)

@@ -5,4 +5,4 @@ pub mod Promises
 pub mod Named
 pub mod Visit
 pub mod Entered
-pub mod Single
+pub mod Unit

@@ -8,9 +8,9 @@ pub use basis::{Basis, BasisRow};
 use refusal::Refusal;
 
 mod basis;
+mod enter;
 mod incidence;
 pub mod promises;
-mod units;
 mod visit;
 
 // A system as preparation leaves it: how many atoms and rows there are, how many basis rows, and whether it was refuted.
@@ -111,12 +111,11 @@ pub fn prepare(
         constants,
         entries: basis,
     };
-    let units = units::collect_units(&left, unit_atoms, unit_values);
-    let incidences = incidence::build_index(&left, index);
+    let counts = enter::enter_basis(&left, unit_atoms, unit_values, index);
     Ok(Prepared {
         system,
         additions: done.additions,
-        units,
-        incidences,
+        units: counts.units,
+        incidences: counts.incidences,
     })
 }

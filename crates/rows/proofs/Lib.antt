@@ -1,5 +1,6 @@
 -- The laws behind the promises, for the proofs of this crate and of those above it.
 pub mod Places
+pub mod Unions
 pub mod Adding
 pub mod Odd
 pub mod Flips

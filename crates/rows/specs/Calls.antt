@@ -1,7 +1,7 @@
 -- What each call of `rows` answers and leaves, for rows that are there and rows that are not.
-use Rattle.std.specs.Prelude.{ℕ, ◌+◌, ◌*◌, Bool, false, Option, Some, None, Result, Ok, Err, cond, ◌&&◌, length, get_or, take, drop, set, leb, ltb, eqb}
+use Rattle.std.specs.Prelude.{ℕ, zero, suc, ◌+◌, ◌*◌, Bool, false, Option, Some, None, Result, Ok, Err, cond, ◌&&◌, length, get_or, take, drop, set, leb, ltb, eqb}
 use mathlib.Core.List.{List, ◌++◌, zip_with}
-use Rattle.std.specs.Int.Bits.{bit_and, bit_xor}
+use Rattle.std.specs.Int.Bits.{bit_and, bit_or, bit_xor}
 use Rattle.std.specs.Int.Count.{ones}
 use Rattle.words.specs.Set.{set_of, odd, low}
 use Rattle.words.specs.Calls.{narrow}
@@ -26,6 +26,15 @@ within w ws r = leb (r.0 * w + w) (length ws)
 -- The part of w words at place i, the parts counted from 0, if it lies within.
 unfoldable pub part_of : ℕ → List ℕ → ℕ → Option (List ℕ)
 part_of w ws i = cond (leb (i * w + w) (length ws)) (Some (row w ws i)) None
+
+-- The union of word i of each of the first m parts of w words.
+unfoldable pub union_of : ℕ → ℕ → List ℕ → ℕ → ℕ
+union_of w i ws zero = 0
+union_of w i ws (suc m) = bit_or (union_of w i ws m) (get_or ws (m * w + i) 0)
+
+-- That union, if the parts lie within and have such a word.
+unfoldable pub union_at_of : ℕ → ℕ → List ℕ → ℕ → Option ℕ
+union_at_of w i ws m = cond (ltb i w && leb (m * w) (length ws)) (Some (union_of w i ws m)) None
 
 abbrev pub row_of : ℕ → List ℕ → Source → Option (List ℕ)
 row_of w ws r = part_of w ws r.0

@@ -6,7 +6,7 @@
 ghost use Rattle.std.specs.Prelude.{◌≡◌, cond, ◌&&◌, ◌+◌, ◌*◌, ◌≤◌, ◌<◌, length, leb, ltb};
 ghost use Rattle.std.specs.Option.{option_copied};
 ghost use Rattle.rows.specs.Flat.{width_of};
-ghost use Rattle.rows.specs.Calls.{outside, source_of, part_of, row_of, lowest_of, overlap_parity_of, is_odd, overlap_count_of, addable, added_words, added_constants};
+ghost use Rattle.rows.specs.Calls.{outside, source_of, part_of, row_of, union_at_of, lowest_of, overlap_parity_of, is_odd, overlap_count_of, addable, added_words, added_constants};
 
 pub mod promises;
 
@@ -72,6 +72,22 @@ pub fn part(words: &[u64], width: usize, place: usize) -> Option<&[u64]>
     }
     let start = place * width;
     Some(&words[start..start + width])
+}
+
+// The union of word `word` of each of the first `count` parts of `width` words, if these lie within and have such a word: of the last words of rows,
+// say. (The loop has no early exit and asks nothing of a word by itself: so the compiled code takes little more than a load for each.)
+#[tactic(auto, unfolding(crate::specs::Calls::union_at_of), using(crate::proofs::Unions::union_start, crate::proofs::Unions::union_step))]
+pub fn union_at(words: &[u64], width: usize, word: usize, count: usize) -> Option<u64>
+    ensures { result ≡ union_at_of width word words.now count }
+{
+    if word >= width || !lie_within(words.len(), width, 0, count) {
+        return None;
+    }
+    let mut union = 0;
+    for i in 0..count {
+        union |= words[i * width + word];
+    }
+    Some(union)
 }
 
 // The words of a row, if it lies within the rows.

@@ -1,6 +1,7 @@
-use Rattle.std.proofs.Common.{◌≡◌}
-use Rattle.fit.specs.Rows.{strays}
+-- After so many constants their union tells whether one of them is above 1.
+use Rattle.std.proofs.Common.{◌≡◌, ltb}
+use Rattle.fit.proofs.Strays.{constants_stray}
 use Rattle.fit.proofs.any_strays.Given as goal
 
-abbrev pub invariant-loop-r : goal.invariant-loop-r
-invariant-loop-r l = l.stray ≡ strays l.n l.width l.rows l.constants l.r
+abbrev pub invariant-loop-constant : goal.invariant-loop-constant
+invariant-loop-constant l = ltb 1 l.union ≡ constants_stray l.constants l.constant-index

@@ -23,19 +23,18 @@ invariant_of-left c =
       named = named _ _ _ (sym c.in_ok-check.ensures) _ _ _ _ c.in_ok-done.ensures;
     }
 
-pub collect_units-units-requires-clause-atoms : goal.collect_units-units-requires-clause-atoms
-collect_units-units-requires-clause-atoms c =
-    omega (arith, few (goal.at.collect_units-units-requires-clause-atoms c).Else-done, (room _ _ _ (sym c.in_ok-check.ensures)).atoms)
+pub enter_basis-counts-requires-clause-atoms : goal.enter_basis-counts-requires-clause-atoms
+enter_basis-counts-requires-clause-atoms c =
+    omega (arith, few (goal.at.enter_basis-counts-requires-clause-atoms c).Else-done, (room _ _ _ (sym c.in_ok-check.ensures)).atoms)
 
-pub collect_units-units-requires-clause-values : goal.collect_units-units-requires-clause-values
-collect_units-units-requires-clause-values c =
-    omega (arith, few (goal.at.collect_units-units-requires-clause-values c).Else-done, (room _ _ _ (sym c.in_ok-check.ensures)).values)
+pub enter_basis-counts-requires-clause-values : goal.enter_basis-counts-requires-clause-values
+enter_basis-counts-requires-clause-values c =
+    omega (arith, few (goal.at.enter_basis-counts-requires-clause-values c).Else-done, (room _ _ _ (sym c.in_ok-check.ensures)).values)
 
-pub build_index-incidences-requires : goal.build_index-incidences-requires
-build_index-incidences-requires c = index_holds _ _ _ _ (room _ _ _ (sym c.in_ok-check.ensures)) (few (goal.at.build_index-incidences-requires c).Else-done)
+pub enter_basis-counts-requires-clause-columns : goal.enter_basis-counts-requires-clause-columns
+enter_basis-counts-requires-clause-columns c = index_holds _ _ _ _ (room _ _ _ (sym c.in_ok-check.ensures)) (few (goal.at.enter_basis-counts-requires-clause-columns c).Else-done)
 
 pub returns : goal.returns
 returns c =
-    let units = c.collect_units-units.ensures in
-    let index = c.build_index-incidences.ensures in
-    sound_is _ _ _ (sym c.in_ok-check.ensures) _ _ _ _ c.in_ok-done.ensures c.if-done.false _ _ _ _ _ units.units units.atoms units.values index.incidences index.index
+    let made = c.enter_basis-counts.ensures in
+    sound_is _ _ _ (sym c.in_ok-check.ensures) _ _ _ _ c.in_ok-done.ensures c.if-done.false _ _ _ _ _ made.units made.atoms made.values made.incidences made.index

@@ -6,7 +6,7 @@ use lib.Seq.{length-take-le}
 use lib.Count.{ones}
 use Rattle.std.specs.Prelude.{Ok}
 use Rattle.words.specs.Set.{set_of}
-use Rattle.parity.proofs.Single.{counted_few}
+use Rattle.parity.proofs.Unit.{counted_few}
 use Rattle.probe.proofs.size.Goals as goal
 use Rattle.probe.proofs.size.Goals.{After-count}
 

@@ -1,16 +1,16 @@
--- Rows of one atom: how the code tells them, their atom and their value, and the units of one basis row more.
+-- What `count` and `first` answer of a row, the atom and the value of a unit, and the units of one basis row more.
 use Prim.Native.Nat.{ℕ, zero, suc, ◌+◌, ◌*◌, ◌/◌, ◌%◌, ◌^◌, ◌≤◌, ◌<◌}
 use mathlib.Core.Path.{◌≡◌, refl, sym, ap, ◌∙◌}
 use mathlib.Core.List.{List, [], ◌∷◌, ◌++◌}
 use mathlib.Core.Bool.{Bool, true, false, cond}
 use native.Mathlib.Nat.{pow-suc, mul_assoc, mod-lt, zero-lt-suc}
 use native.Mathlib.Omega.{arith}
-use borrow.Author.Tests.{lt-ltb, ne_eqb, eq-eqb}
+use borrow.Author.Tests.{lt-ltb, ne_eqb}
 use lib.ListN.{length, get_or}
 use lib.Bits.{and_self}
 use lib.Count.{ones}
 use lib.Dec.{eqb}
-use Rattle.std.specs.Prelude.{None, Ok, Err}
+use Rattle.std.specs.Prelude.{Some, Ok, Err}
 use Rattle.rows.proofs.Constants.{number_back}
 use Rattle.words.specs.Set.{set_of, low}
 use Rattle.words.specs.declared.Unfit.TheVariants.{TooWide}
@@ -21,7 +21,6 @@ use Rattle.rows.specs.Flat.{row, atoms_of, row_at}
 use Rattle.rows.proofs.Digits.{atoms_overlap}
 use Rattle.index.specs.Index.{size}
 use Rattle.parity.specs.Basis.{units_of}
-use Rattle.parity.specs.Single.{single_of}
 use Rattle.echelon.specs.Forward as forward
 
 -- ---- what the calls answer
@@ -39,20 +38,11 @@ unfolding ones
 single_some zero e = omega arith
 single_some (suc x) e = omega arith
 
-module _ {n : ℕ} (ws : List ℕ) (few : length ws ≤ 8) (count : count_of ws ≡ Ok n) where
-  counted : n ≡ ones (set_of ws)
-  counted = let same : Ok n ≡ Ok (ones (set_of ws)) = sym count ∙ counted_few ws few in cc
-
-  pub single_none : (n ≡ 1 → ⊥) → None ≡ single_of (set_of ws)
-  single_none ne = rw (ne_eqb (ones (set_of ws)) 1 (λ e. ne (counted ∙ e))) refl
-
-  pub single_first : n ≡ 1 → first_of ws ≡ Ok (single_of (set_of ws))
-  unfolding first_of
-  single_first e =
-      let one : ones (set_of ws) ≡ 1 = sym counted ∙ e in
-      let some : eqb (set_of ws) 0 ≡ false = ne_eqb (set_of ws) 0 (λ z. omega (arith, single_some (set_of ws) one)) in
-      let is : eqb (ones (set_of ws)) 1 ≡ true = eq-eqb (ones (set_of ws)) 1 one in
-      rw (narrow_few (length ws) few, some, is) refl
+pub unit_first : (ws : List ℕ) → length ws ≤ 8 → ones (set_of ws) ≡ 1 → first_of ws ≡ Ok (Some (low (set_of ws)))
+unfolding first_of
+unit_first ws few one =
+    let some : eqb (set_of ws) 0 ≡ false = ne_eqb (set_of ws) 0 (λ z. omega (arith, single_some (set_of ws) one)) in
+    rw (narrow_few (length ws) few, some) refl
 
 -- ---- the row's atoms as a list
 

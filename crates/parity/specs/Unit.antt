@@ -1,11 +1,8 @@
--- What the private functions of the units answer, for their contracts alone.
+-- What `unit` answers, for its contract alone.
 use Rattle.std.specs.Prelude.{ℕ, Option, Some, None, cond, eqb}
 use Rattle.std.specs.Int.Count.{ones}
 use Rattle.words.specs.Set.{low}
 
--- The atom of a set that has just one, and that atom with a value.
-abbrev pub single_of : ℕ → Option ℕ
-single_of x = cond (eqb (ones x) 1) (Some (low x)) None
-
+-- The atom of a set that has just one, with a value.
 abbrev pub unit_of : ℕ → ℕ → Option (ℕ × ℕ)
 unit_of x value = cond (eqb (ones x) 1) (Some (low x, value)) None
