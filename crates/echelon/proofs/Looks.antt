@@ -73,6 +73,12 @@ pub head_at : (pivots : List Pivot) (i word : ℕ) → 0 < word → head_of pivo
 unfolding head_of
 head_at pivots i word h = ap (λ (e : Bool). cond e 0 (get_or pivots (i * 64 + count_trailing_zeros 64 word) no_pivot).head) (ne_eqb word 0 (λ e. omega arith))
 
+-- the lowest atom of the word under work
+pub turn_below : {n w t i : ℕ} {ws cs ws' cs' : List ℕ} {word k : ℕ} → Turn n w t i ws cs ws' cs' word k → word < 2 ^ 64 → 0 < word
+    → i * 64 + count_trailing_zeros 64 word < n
+turn_below {n} {w} {t} {i} {ws} {cs} {ws'} {cs'} {word} {k} turn word_fits some_word =
+    atom_below n i word (row w ws' t) some_word word_fits turn.fits
+
 -- the pivot that is found, as `turn_next` asks for it
 pub record Found (n w t i : ℕ) (ws cs ws' cs' : List ℕ) (word head s : ℕ) : Type 0 where
   pub earlier : s < t

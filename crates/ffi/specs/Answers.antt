@@ -27,6 +27,7 @@ use Rattle.snapshot.specs.declared.Snapshot.{Snapshot}
 use Rattle.snapshot.specs.declared.Ordinals.{Ordinals}
 use Rattle.inspect.specs.Inspect.{Outcome}
 use Rattle.inspect.specs.declared.Inspected.{Inspected}
+use Rattle.inspect.specs.declared.NotInspected.{NotInspected}
 use Rattle.inspect.specs.declared.Step.{Step as Inspecting}
 use Rattle.inspect.specs.declared.Step.TheVariants.{Unchanged, Changed, Refuted}
 use Rattle.probe.specs.declared.Probed.{Probed as Probing}
@@ -178,6 +179,13 @@ inspected_answer r known (Ok i) =
     record { kind = step_kind i.answer; number = 0; held = i.held; cut = i.cut; forced = i.forced; region = i.region; known = i.known }
 inspected_answer r known (Err refusal) =
     record { kind = 3; number = number_of refusal; held = 0; cut = 0; forced = 0; region = r; known = known }
+
+-- An inspection's answer, by what the call hands back.
+abbrev pub inspection_of : Result Inspected NotInspected → Inspection
+inspection_of (Ok i) =
+    record { kind = step_kind i.answer; number = 0; held = i.held; cut = i.cut; forced = i.forced; region = i.region; known = i.known }
+inspection_of (Err e) =
+    record { kind = 3; number = number_of e.refusal; held = 0; cut = 0; forced = 0; region = e.region; known = e.known }
 
 -- An inspection's answer, beside the lent lists of forced atoms and values as they are then.
 abbrev pub outcome_answer : Region → Snapshot → Outcome (Result Inspected Refusal) → Inspection × (List ℕ × List ℕ)

@@ -4,9 +4,9 @@ ghost use Rattle.region.specs.Calls.{undecided_of, hold_of, cut_of};
 ghost use Rattle.snapshot.specs.Knowledge.{fresh, publish_of};
 ghost use Rattle.snapshot.specs.Touch.{selected_of};
 ghost use Rattle.inspect.specs.Inspect.{filled, inspect_of};
-ghost use Rattle.ffi.specs.Answers.{atom_number, new_region_answer, decided_answer, published_answer, selected_answer, inspected_answer, outcome_answer};
+ghost use Rattle.ffi.specs.Answers.{atom_number, new_region_answer, decided_answer, published_answer, selected_answer, inspection_of, outcome_answer};
 
-use inspect::{Inspected, Step};
+use inspect::{Inspected, NotInspected, Step};
 use parity::System;
 use refusal::Refusal;
 use region::{Answer, Region};
@@ -120,31 +120,30 @@ impl From<(Result<(), Refusal>, Snapshot)> for Published {
     }
 }
 
-// An inspection's answer; where it is refused, with region and knowledge as they were passed. (No From: these two are the caller's, and the triple that
-// it would be of would be built for this one call. Not inlined: the compiled code then copies region and knowledge fewer times.)
-#[inline(never)]
-fn inspected(answer: Result<Inspected, Refusal>, region: Region, known: Snapshot) -> Inspection
-    ensures { result ≡ inspected_answer region known answer }
-{
-    match answer {
-        Ok(inspected) => Inspection {
-            kind: inspected.answer as usize,
-            number: 0,
-            held: inspected.held,
-            cut: inspected.cut,
-            forced: inspected.forced,
-            region: inspected.region,
-            known: inspected.known,
-        },
-        Err(refusal) => Inspection {
-            kind: 3,
-            number: refusal.number(),
-            held: 0,
-            cut: 0,
-            forced: 0,
-            region,
-            known,
-        },
+impl From<Result<Inspected, NotInspected>> for Inspection {
+    ghost from_gives = { λ inspected told. told ≡ inspection_of inspected };
+
+    fn from(inspected: Result<Inspected, NotInspected>) -> Inspection {
+        match inspected {
+            Ok(inspected) => Inspection {
+                kind: inspected.answer as usize,
+                number: 0,
+                held: inspected.held,
+                cut: inspected.cut,
+                forced: inspected.forced,
+                region: inspected.region,
+                known: inspected.known,
+            },
+            Err(refused) => Inspection {
+                kind: 3,
+                number: refused.refusal.number(),
+                held: 0,
+                cut: 0,
+                forced: 0,
+                region: refused.region,
+                known: refused.known,
+            },
+        }
     }
 }
 
@@ -198,7 +197,7 @@ pub fn worzubil_inspect(
 ) -> Inspection
     ensures { (result, (forced_atoms.new, forced_values.new)) ≡ outcome_answer region known (inspect_of system (filled rows.now constants.now basis.now index.now) region known forced_atoms.old forced_values.old) }
 {
-    let answer = inspect::inspect(
+    Inspection::from(inspect::inspect(
         system,
         rows,
         constants,
@@ -208,6 +207,5 @@ pub fn worzubil_inspect(
         known,
         forced_atoms,
         forced_values,
-    );
-    inspected(answer, region, known)
+    ))
 }

@@ -60,8 +60,9 @@ impl<'a> Record<'a> {
     pub fn byte(self, i: usize) -> u8
         ensures { result ≡ byte_at self.entry.file.now (self.entry.offset + i) }
     {
-        let at = self.offset.saturating_add(i);
-        self.file.get(at).copied().unwrap_or(0)
+        // (Cut from the record on first, which a loop over fields does once.)
+        let rest = self.file.get(self.offset..).unwrap_or(&[]);
+        rest.get(i).copied().unwrap_or(0)
     }
 
     // A number of 2 bytes.

@@ -120,9 +120,16 @@ module _ (s : System) (l : Filled) (r : Region) (known : Snapshot) (atoms values
   abbrev unread : Step → Outcome Inspected
   unread step = outcome (told_of step 0 0 0 r known) atoms values
 
-  -- "refuted system, Refuted"
-  pub refuted_is : s.refuted ≡ true → unread Refuted ≡ whole
-  refuted_is t = sym (ap (λ (b : Bool). cond b (unread Refuted) (cond (eqb s.rank 0) (unread Unchanged) written)) t)
+  -- "refuted system, Refuted": what fit input comes to, and so the call's answer
+  pub refuted_unread : s.refuted ≡ true → unread Refuted ≡ whole
+  refuted_unread t = sym (ap (λ (b : Bool). cond b (unread Refuted) (cond (eqb s.rank 0) (unread Unchanged) written)) t)
+
+  pub refuted_is : inspect_check s l r known (length atoms) (length values) ≡ Ok tt → s.refuted ≡ true
+      → outcome {R = Answer} (Ok (told_of Refuted 0 0 0 r known)) atoms values ≡ inspect_of s l r known atoms values
+  unfolding inspect_of
+  refuted_is fine t =
+      ap (λ (p : Outcome Inspected). outcome {R = Answer} (Ok p.result) p.atoms p.values) (refuted_unread t)
+      ∙ ap (λ check. outcome (answered check whole.result) (left check whole.atoms atoms) (left check whole.values values)) (sym fine)
 
   abbrev by : Bool → Inspected
   by b = cond b (ended (applied (begun (decisions r)) c.forced) (length c.forced) r) (told_of Refuted 0 0 (length c.forced) r known)

@@ -18,6 +18,7 @@ use Rattle.snapshot.specs.declared.Snapshot.{Snapshot}
 use Rattle.inspect.specs.Consequences.{Consequences, consequences}
 use Rattle.inspect.specs.Batch.{Batch, begun, applied}
 use Rattle.inspect.specs.declared.Inspected.{Inspected}
+use Rattle.inspect.specs.declared.NotInspected.{NotInspected}
 use Rattle.inspect.specs.declared.Step.{Step}
 use Rattle.inspect.specs.declared.Step.TheVariants.{Unchanged, Changed, Refuted}
 
@@ -85,6 +86,11 @@ pub record Outcome (R : Type 0) : Type 0 where
 
 abbrev pub outcome : {R : Type 0} → R → List ℕ → List ℕ → Outcome R
 outcome result atoms values = record { result = result; atoms = atoms; values = values }
+
+-- An answer without the region and the knowledge that a refused call hands back.
+abbrev pub told : Result Inspected NotInspected → Result Inspected Refusal
+told (Ok i) = Ok i
+told (Err e) = Err e.refusal
 
 -- "its count is in the result, and entries past it are untouched"
 abbrev pub atoms_from : List (ℕ × Bool) → List ℕ → List ℕ

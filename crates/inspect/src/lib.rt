@@ -2,13 +2,13 @@
 // came, that region is published, and what follows from single rows is then decided in basis order (prepared.rt).
 #![tactic(auto)]
 
-ghost use Rattle.std.specs.Prelude.{◌≡◌, ◌-◌, ◌^◌, Ok, replicate};
+ghost use Rattle.std.specs.Prelude.{◌≡◌, ◌-◌, ◌^◌, Ok, replicate, IfErr};
 ghost use Rattle.std.specs.Int.Bits.{bit_xor};
 ghost use Rattle.words.specs.Calls.{merged};
 ghost use Rattle.region.specs.Masks.{decisions};
 ghost use Rattle.region.specs.Calls.{region_check};
 ghost use Rattle.inspect.specs.Batch.{begun, applied};
-ghost use Rattle.inspect.specs.Inspect.{filled, told_of, outcome, answer_of, ended, inspect_of};
+ghost use Rattle.inspect.specs.Inspect.{filled, told_of, outcome, told, answer_of, ended, inspect_of};
 ghost use Rattle.inspect.specs.Steps.{Masked, Applicable, forced_in};
 
 use apply::Tally;
@@ -88,6 +88,14 @@ pub struct Inspected {
     pub known: Snapshot,
 }
 
+// A refused inspection: why, and region and knowledge as they were passed.
+#[derive(Clone, Copy)]
+pub struct NotInspected {
+    pub refusal: Refusal,
+    pub region: Region,
+    pub known: Snapshot,
+}
+
 // An inspection that decides nothing: region and knowledge stand. (No From: it has four values of four types, and no struct has just those.)
 fn stands(answer: Step, forced: usize, region: Region, known: Snapshot) -> Inspected
     ensures { result ≡ told_of answer 0 0 forced region known }
@@ -146,8 +154,9 @@ pub fn inspect(
     known: Snapshot,
     forced_atoms: &mut [usize],
     forced_values: &mut [u8],
-) -> Result<Inspected, Refusal>
-    ensures { outcome result forced_atoms.new forced_values.new ≡ inspect_of system (filled rows.now constants.now basis.now index.now) region known forced_atoms.old forced_values.old }
+) -> Result<Inspected, NotInspected>
+    ensures is { outcome (told result) forced_atoms.new forced_values.new ≡ inspect_of system (filled rows.now constants.now basis.now index.now) region known forced_atoms.old forced_values.old }
+    ensures passed { IfErr result (λ e. (e.region ≡ region) × (e.known ≡ known)) }
 {
     let prepared = PreparedSystem {
         system,
@@ -157,5 +166,11 @@ pub fn inspect(
         index,
         fit: false,
     };
-    prepared.inspect(region, known, forced_atoms, forced_values)
+    prepared
+        .inspect(region, known, forced_atoms, forced_values)
+        .map_err(|refusal| NotInspected {
+            refusal,
+            region,
+            known,
+        })
 }

@@ -74,10 +74,13 @@ module _ (s : System) (ws cs ps : List ℕ) (r : Region) where
   by t left u = cond t (told_of false u 0) (told_of left.sound u left.kept)
 
   module _ (u : ℕ) (undecideds : u ≡ undecided (decisions r)) where
-    pub refuted_is : s.refuted ≡ true → told_of false u 0 ≡ probed s ws cs ps r
-    refuted_is t =
+    pub refuted_probed : s.refuted ≡ true → told_of false u 0 ≡ probed s ws cs ps r
+    refuted_probed t =
         ap (λ (v : ℕ). told_of false v 0) undecideds
         ∙ sym (ap (λ (b : Bool). by b (told (eliminated (decisions r) (basis_of s.atoms ws cs (take s.rank ps)))) (undecided (decisions r))) t)
+
+    pub refuted_is : probe_check s ws cs ps r ≡ Ok tt → s.refuted ≡ true → ◌≡◌ {A = Result Probed Refusal} (Ok (told_of false u 0)) (probe_of s ws cs ps r)
+    refuted_is e t = fine_is e (told_of false u 0) (refuted_probed t)
 
     pub sound_is : s.refuted ≡ false → (left : Eliminated) → left ≡ told (eliminated (decisions r) (basis_of s.atoms ws cs (take s.rank ps)))
         → told_of left.sound u left.kept ≡ probed s ws cs ps r

@@ -1,5 +1,5 @@
 -- The checks of a record's fields: numbers within their bounds (4), and a table's atoms rising (5).
-use Rattle.std.specs.Prelude.{ℕ, suc, List, [], ◌∷◌, Bool, true, ◌&&◌, leb, ltb, Result, Ok}
+use Rattle.std.specs.Prelude.{ℕ, suc, List, [], ◌∷◌, Bool, true, cond, ◌&&◌, leb, ltb, Result, Ok}
 use Rattle.fit.specs.Rows.{limit}
 use Rattle.format.specs.declared.Kind.{Kind}
 use Rattle.format.specs.declared.Kind.TheVariants.{Atoms, Row, Table, Decide, Inspect, Probe}
@@ -7,6 +7,16 @@ use Rattle.format.specs.Format.{count_at, constant_at, row_atoms, table_atoms, d
 use Rattle.record.specs.Fault.{unless, ◌>>◌}
 use Rattle.record.specs.declared.Fault.{Fault}
 use Rattle.record.specs.declared.FaultKind.TheVariants.{Range, Rising}
+
+-- How many atoms at the head of a list are below n.
+unfoldable pub good_atoms : ℕ → List ℕ → ℕ
+good_atoms n [] = 0
+good_atoms n (a ∷ atoms) = cond (ltb a n) (suc (good_atoms n atoms)) 0
+
+-- How many atoms at the head of a list rise strictly, the first being at least `from`.
+unfoldable pub rising_atoms : ℕ → List ℕ → ℕ
+rising_atoms from [] = 0
+rising_atoms from (a ∷ atoms) = cond (leb from a) (suc (rising_atoms (suc a) atoms)) 0
 
 -- Whether all atoms are below n.
 unfoldable pub all_below : ℕ → List ℕ → Bool

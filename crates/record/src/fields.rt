@@ -3,24 +3,42 @@
 ghost use Rattle.std.specs.Prelude.{◌≡◌};
 ghost use Rattle.format.specs.Bytes.{list_from};
 ghost use Rattle.format.specs.Format.{atom_at};
-ghost use Rattle.record.specs.Fields.{all_below, rises, range_check, rising_check};
+ghost use Rattle.record.specs.Fields.{good_atoms, all_below, rising_atoms, rises, range_check, rising_check};
 
 use super::{Fault, FaultKind};
 use fit::LIMIT;
 use format::{Kind, Record};
 
-// Whether a record's first `count` atoms are below n.
+// How many of a record's first `count` atoms come before one that is not below n.
+fn good_atoms(at: Record, n: usize, count: usize) -> usize
+    ensures { result ≡ good_atoms n (list_from (atom_at at.entry.file.now at.entry.offset) 0 count) }
+{
+    (0..count)
+        .position(|i| n <= usize::from(at.atom(i)))
+        .unwrap_or(count)
+}
+
+// Whether all of them are below n.
 fn all_below(at: Record, n: usize, count: usize) -> bool
     ensures { result ≡ all_below n (list_from (atom_at at.entry.file.now at.entry.offset) 0 count) }
 {
-    (0..count).all(|i| usize::from(at.atom(i)) < n)
+    good_atoms(at, n, count) == count
+}
+
+// How many of them come before one that does not rise.
+fn rising_atoms(at: Record, count: usize) -> usize
+    ensures { result ≡ rising_atoms 0 (list_from (atom_at at.entry.file.now at.entry.offset) 0 count) }
+{
+    (0..count)
+        .position(|i| i > 0 && at.atom(i) <= at.atom(i - 1))
+        .unwrap_or(count)
 }
 
 // Whether they rise.
 fn rises(at: Record, count: usize) -> bool
     ensures { result ≡ rises 0 (list_from (atom_at at.entry.file.now at.entry.offset) 0 count) }
 {
-    (1..count).all(|i| at.atom(i - 1) < at.atom(i))
+    rising_atoms(at, count) == count
 }
 
 #[tactic(auto, unfolding(crate::specs::Fields::range_check))]

@@ -5,7 +5,7 @@ ghost use Rattle.format.specs.Kind.{kind_of};
 ghost use Rattle.record.specs.Form.{length_check, group_of, follows, kind_check, table_size_check, size_check};
 
 use super::{Fault, FaultKind};
-use format::{Kind, Record};
+use format::{Kind, Record, UnknownKind};
 
 // The groups of kinds, in the order in which they stand in a file.
 #[derive(Clone, Copy, Debug, PartialEq, Eq, PartialOrd, Ord)]
@@ -52,18 +52,29 @@ fn may_follow(before: Option<Group>, group: Group) -> bool
     }
 }
 
-// The kind, where it is one and may stand after what was before.
+// A kind, where it is one and may stand after what was before, told at an offset. (Any number can be asked, by `Kind::try_from`.)
 #[tactic(auto, unfolding(crate::specs::Form::kind_check))]
-pub fn check_kind(before: Option<Group>, at: Record) -> Result<Kind, Fault>
-    ensures { result ≡ kind_check before (kind_of (kind_at at.entry.file.now at.entry.offset)) at.entry.offset }
+pub fn check_order(
+    before: Option<Group>,
+    kind: Result<Kind, UnknownKind>,
+    offset: usize,
+) -> Result<Kind, Fault>
+    ensures { result ≡ kind_check before kind offset }
 {
     let fault = Fault {
         kind: FaultKind::Order,
-        offset: at.offset,
+        offset,
     };
-    let kind = at.kind().or(Err(fault))?;
-    FaultKind::Order.unless(may_follow(before, Group::from(kind)), at.offset)?;
+    let kind = kind.or(Err(fault))?;
+    FaultKind::Order.unless(may_follow(before, Group::from(kind)), offset)?;
     Ok(kind)
+}
+
+// The kind of a record.
+pub fn check_kind(before: Option<Group>, at: Record) -> Result<Kind, Fault>
+    ensures { result ≡ kind_check before (kind_of (kind_at at.entry.file.now at.entry.offset)) at.entry.offset }
+{
+    check_order(before, at.kind(), at.offset)
 }
 
 #[tactic(auto, unfolding(crate::specs::Form::table_size_check))]

@@ -116,8 +116,8 @@ fn text(tape: &mut Tape, file: &[u8]) {
 }
 
 // What preparation leaves of the rows that a file's load leaves, and then the calls, behind their number.
-fn internals(tape: &mut Tape, file: &[u8]) {
-    let mut memory = Memory::new();
+fn internals(tape: &mut Tape, memory: &mut Memory, file: &[u8]) {
+    memory.clear();
     let Ok(checked) = load::load(file, &mut memory.rows, &mut memory.constants) else {
         return;
     };
@@ -129,14 +129,14 @@ fn internals(tape: &mut Tape, file: &[u8]) {
     let count: usize = tape.read();
     let mut run = Run::new(region);
     for _ in 0..count {
-        run.call(tape.read(), prepared.system, &memory);
+        run.call(tape.read(), prepared.system, memory);
         run.compare(tape);
     }
 }
 
-pub fn answer(tape: &mut Tape) {
+pub fn answer(tape: &mut Tape, memory: &mut Memory) {
     let size: u64 = tape.read();
     let file = tape.part(size as usize).rest();
     text(tape, file);
-    internals(tape, file);
+    internals(tape, memory, file);
 }

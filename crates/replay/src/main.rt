@@ -3,6 +3,7 @@
 #![tactic(auto)]
 
 use std::io;
+use systems::Memory;
 use tape::Tape;
 
 mod files;
@@ -11,7 +12,13 @@ mod tables;
 mod tape;
 
 // Replays the cases of a kind, and prints how many agree. A case says first how many bytes it has, and all of them are to be compared.
-fn replay<F: Fn(&mut Tape)>(rt: &impl Print, tape: &mut Tape, call: &str, case: F) -> io::Result<()>
+fn replay<F: Fn(&mut Tape, &mut Memory)>(
+    rt: &impl Print,
+    tape: &mut Tape,
+    memory: &mut Memory,
+    call: &str,
+    case: F,
+) -> io::Result<()>
     requires { F.IsAlwaysCallable case }
 {
     let asked: usize = tape.read();
@@ -19,17 +26,18 @@ fn replay<F: Fn(&mut Tape)>(rt: &impl Print, tape: &mut Tape, call: &str, case: 
     for _ in 0..asked {
         let size: u64 = tape.read();
         let mut recorded = tape.part(size as usize);
-        case(&mut recorded);
+        case(&mut recorded, memory);
         agreed += usize::from(recorded.is_matched());
     }
     println!(rt; "{agreed} of {asked} recorded answers of {call} agree")
 }
 
 fn main(rt: HostRuntime) -> io::Result<()> {
-    let mut memory = buffer::filled::<500000>(0);
-    let read = buffer::read_full(&mut rt.stdin(), &mut memory)?;
-    let mut tape = Tape::new(&memory[..read]);
-    replay(&rt, &mut tape, "propose", tables::propose)?;
-    replay(&rt, &mut tape, "prepare", systems::prepare)?;
-    replay(&rt, &mut tape, "files", files::answer)
+    let mut input = buffer::filled::<500000>(0);
+    let read = buffer::read_full(&mut rt.stdin(), &mut input)?;
+    let mut tape = Tape::new(&input[..read]);
+    let mut memory = Memory::new();
+    replay(&rt, &mut tape, &mut memory, "propose", tables::propose)?;
+    replay(&rt, &mut tape, &mut memory, "prepare", systems::prepare)?;
+    replay(&rt, &mut tape, &mut memory, "files", files::answer)
 }

@@ -3,7 +3,7 @@ use super::tape::Tape;
 use parity::Prepared;
 use refusal::Refusal;
 
-// The memory that is lent to preparation.
+// The memory that is lent to preparation: one for all cases, which each case clears.
 #[derive(Drop)]
 pub struct Memory {
     pub rows: [u64; 4096],
@@ -24,6 +24,16 @@ impl Memory {
             values: [7; 512],
             index: [7; 4096],
         }
+    }
+
+    // 7 everywhere.
+    pub fn clear(&mut self) {
+        self.rows.fill(7);
+        self.constants.fill(7);
+        self.basis.fill(7);
+        self.atoms.fill(7);
+        self.values.fill(7);
+        self.index.fill(7);
     }
 
     pub fn prepare(&mut self, n: usize, m: usize) -> Result<Prepared, Refusal> {
@@ -69,12 +79,12 @@ fn told(said: Result<Prepared, Refusal>) -> [usize; 8] {
     }
 }
 
-pub fn prepare(tape: &mut Tape) {
+pub fn prepare(tape: &mut Tape, memory: &mut Memory) {
     let n = tape.read();
     let m = tape.read();
-    let mut memory = Memory::new();
-    tape.fill(&mut memory.rows);
-    tape.fill(&mut memory.constants);
+    memory.clear();
+    tape.fill_room(&mut memory.rows);
+    tape.fill_room(&mut memory.constants);
     let said = memory.prepare(n, m);
     memory.compare(tape, said);
 }

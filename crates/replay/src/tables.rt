@@ -1,4 +1,5 @@
 // A recorded table: k, its words, then what `propose` says of it: number, count, exact, and 8 times coefficients and constant.
+use super::systems::Memory;
 use super::tape::Tape;
 use hull::Hull;
 use refusal::Refusal;
@@ -22,7 +23,8 @@ fn told(said: Result<Hull, Refusal>) -> [usize; 19] {
     numbers
 }
 
-pub fn propose(tape: &mut Tape) {
+// (Preparation's memory is passed to each kind of case, and not used here.)
+pub fn propose(tape: &mut Tape, _: &mut Memory) {
     let k = tape.read();
     let mut words = [0u64; 8];
     let count = tape.fill(&mut words);

@@ -62,16 +62,13 @@ pub fn lie_within(words: usize, width: usize, first: usize, count: usize) -> boo
     count <= whole && first <= whole - count
 }
 
-// The part of `width` words at a place, the parts counted from 0, if it lies within.
+// The part of `width` words at a place, the parts counted from 0, if it lies within. (A start that would wrap is past the end; a quotient, as
+// `lie_within` has, takes as long as all else that a visited column costs.)
 #[tactic(auto, unfolding(crate::specs::Calls::part_of))]
 pub fn part(words: &[u64], width: usize, place: usize) -> Option<&[u64]>
     ensures { option_copied result ≡ part_of width words.now place }
 {
-    if !lie_within(words.len(), width, place, 1) {
-        return None;
-    }
-    let start = place * width;
-    Some(&words[start..start + width])
+    words.get(place.saturating_mul(width)..)?.get(..width)
 }
 
 // The union of word `word` of each of the first `count` parts of `width` words, if these lie within and have such a word: of the last words of rows,

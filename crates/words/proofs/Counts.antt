@@ -10,7 +10,7 @@ use lib.Count.{ones, ones_step, ones_cat, ones-le}
 use lib.Pow.{pow_pos}
 use lib.ListN.{length, get_or, drop}
 use Rattle.std.proofs.lemmas.List.Sums.{sum_by-cons}
-use Rattle.std.specs.List.{zip, sum_by, fold}
+use Rattle.std.specs.List.{zip, sum_by}
 use Rattle.words.specs.Set.{packed}
 use Rattle.words.proofs.Bitwise.{by_and, join_words, two}
 use Rattle.words.proofs.Packed.{left_cons, left_none}
@@ -62,24 +62,17 @@ sum_shared k (x ∷ l) (y ∷ r) h fits =
     let all : ones (bit_and (packed k (x ∷ l)) (packed k (y ∷ r))) ≡ ones (bit_and (packed k l) (packed k r)) + ones (bit_and x y) = share_more k (packed k l) (packed k r) x y (fits 0) in
     (omega (arith, rest.0), omega (arith, rest.1, suc-mul (length l) k))
 
--- the sum of the words that two sets share has their parity
-abbrev pub added : ℕ → ℕ × ℕ → ℕ
-added sum p = bit_xor sum (bit_and p.0 p.1)
+-- the sum of the words that two sets share before place i, with what they share from there on, has the parity of all that they share
+abbrev pub Parity : ℕ → List ℕ → List ℕ → ℕ → Type 0
+Parity sum l r i = (ones sum + ones (bit_and (packed 64 (drop i l)) (packed 64 (drop i r)))) % 2 ≡ ones (bit_and (packed 64 l) (packed 64 r)) % 2
 
-parity_added : (k : ℕ) (l r : List ℕ) (sum : ℕ) → length l ≡ length r → ((i : ℕ) → get_or l i 0 < 2 ^ k)
-    → ones (fold added sum (zip l r)) % 2 ≡ (ones sum + ones (bit_and (packed k l) (packed k r))) % 2
-unfolding packed ones
-parity_added k [] [] sum h fits = omega arith
-parity_added k [] (y ∷ r) sum h fits = let z : ⊥ = omega arith in absurd z
-parity_added k (x ∷ l) [] sum h fits = let z : ⊥ = omega arith in absurd z
-parity_added k (x ∷ l) (y ∷ r) sum h fits =
-    omega (
-      arith,
-      parity_added k l r (bit_xor sum (bit_and x y)) (omega arith) (λ i. fits (suc i)),
-      share_more k (packed k l) (packed k r) x y (fits 0),
-      ones_xor sum (bit_and x y),
-    )
-
-pub parity_shared : (k : ℕ) (l r : List ℕ) → length l ≡ length r → ((i : ℕ) → get_or l i 0 < 2 ^ k) → ones (fold added 0 (zip l r)) % 2 ≡ ones (bit_and (packed k l) (packed k r)) % 2
+pub parity_start : (l r : List ℕ) → Parity 0 l r 0
 unfolding ones
-parity_shared k l r h fits = omega (arith, parity_added k l r 0 h fits)
+parity_start l r = omega arith
+
+pub parity_next : (sum : ℕ) (l r : List ℕ) (i : ℕ) → i < length l → i < length r → get_or l i 0 < 2 ^ 64 → Parity sum l r i
+    → Parity (bit_xor sum (bit_and (get_or l i 0) (get_or r i 0))) l r (i + 1)
+parity_next sum l r i hl hr lt p = omega (arith, p, shared_cons 64 l r i hl hr lt, ones_xor sum (bit_and (get_or l i 0) (get_or r i 0)))
+
+pub parity_end : (sum : ℕ) (l r : List ℕ) (i : ℕ) → length l ≤ i → Parity sum l r i → ones sum % 2 ≡ ones (bit_and (packed 64 l) (packed 64 r)) % 2
+parity_end sum l r i h p = omega (arith, p, shared_none 64 l r i h)

@@ -1,19 +1,21 @@
--- the fold of the shared words has the parity of the shared atoms
-use Rattle.std.proofs.Common.{ap, ◌∙◌, rules, ◌%◌}
-use Rattle.std.proofs.lemmas.Iterator.{YieldsList-from_slice, YieldsList-from_zip}
-use Rattle.std.proofs.lemmas.Iterator.Consumers.{fold_from_yields_List}
+-- one word more is summed, and the sum has the parity of the shared atoms
+use Rattle.std.proofs.Common.{ap, arith}
 use Rattle.std.specs.Prelude.{Ok, eqb}
-use Rattle.std.specs.Int.Count.{ones}
 use borrow.Author.Tests.{eq-eqb}
 use Rattle.words.specs.Calls.{parity_of}
-use Rattle.words.proofs.Counts.{added, parity_shared}
+use Rattle.words.proofs.Counts.{parity_start, parity_next, parity_end}
 use Rattle.words.proofs.intersection_parity.Goals as goal
+
+pub loop-i-init : goal.loop-i-init
+loop-i-init c = parity_start c.args.left.now c.args.right.now
+
+pub loop-i-preserved : goal.loop-i-preserved
+loop-i-preserved c =
+    parity_next c.loop-i.sum c.args.left.now c.args.right.now c.loop-i.i (omega (arith, c.loop-i-test.true)) (omega (arith, c.loop-i-test.true, c.in_ok-alike.ensures))
+    (c.type_inv.left c.loop-i.i).fits c.loop-i.invariant
 
 pub returns : goal.returns
 unfolding parity_of
 returns c =
-    let l = c.args.left.now in
-    let r = c.args.right.now in
-    let all = fold_from_yields_List _ added 0 c.fold-sum.result c.fold-sum.ensures.ran (YieldsList-from_zip (YieldsList-from_slice l cc) (YieldsList-from_slice r cc)) (λ a x b q k. search rules) in
     simp (eq-eqb _ _ c.in_ok-alike.ensures)
-    (ap (λ n. Ok (eqb n 1)) (ap (λ n. ones n % 2) all ∙ parity_shared 64 l r c.in_ok-alike.ensures (λ i. (c.type_inv.left i).fits)))
+    (ap (λ n. Ok (eqb n 1)) (parity_end c.loop-i.sum c.args.left.now c.args.right.now c.loop-i.i (omega (arith, c.loop-i-test.false)) c.loop-i.invariant))

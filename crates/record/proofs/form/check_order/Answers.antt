@@ -1,7 +1,7 @@
--- `check_kind`: written out, so that a wrong body is refused at once.
+-- `check_order`: written out, so that a wrong body is refused at once.
 use Rattle.std.proofs.Common.{rules}
 use Rattle.record.specs.Form.{kind_check}
-use Rattle.record.proofs.form.check_kind.Goals as goal
+use Rattle.record.proofs.form.check_order.Goals as goal
 
 pub returns : goal.returns
 unfolding kind_check
