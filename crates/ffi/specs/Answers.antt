@@ -182,10 +182,8 @@ inspected_answer r known (Err refusal) =
 
 -- An inspection's answer, by what the call hands back.
 abbrev pub inspection_of : Result Inspected NotInspected → Inspection
-inspection_of (Ok i) =
-    record { kind = step_kind i.answer; number = 0; held = i.held; cut = i.cut; forced = i.forced; region = i.region; known = i.known }
-inspection_of (Err e) =
-    record { kind = 3; number = number_of e.refusal; held = 0; cut = 0; forced = 0; region = e.region; known = e.known }
+inspection_of (Ok i) = inspected_answer i.region i.known (Ok i)
+inspection_of (Err e) = inspected_answer e.region e.known (Err e.refusal)
 
 -- An inspection's answer, beside the lent lists of forced atoms and values as they are then.
 abbrev pub outcome_answer : Region → Snapshot → Outcome (Result Inspected Refusal) → Inspection × (List ℕ × List ℕ)
