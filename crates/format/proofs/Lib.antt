@@ -2,4 +2,5 @@
 pub mod KindNumbers
 pub mod Listing
 pub mod Offsets
+pub mod Pairs
 pub mod Tables

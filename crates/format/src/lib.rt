@@ -2,7 +2,7 @@
 // byte is 0.
 #![tactic(auto)]
 
-ghost use Rattle.std.specs.Prelude.{◌≡◌, ℕ, ◌+◌, ◌-◌, ◌<◌, min, length};
+ghost use Rattle.std.specs.Prelude.{◌≡◌, ℕ, ◌+◌, ◌-◌, ◌<◌, min, length, drop};
 ghost use Rattle.std.specs.Iterator.{at_most};
 ghost use Rattle.hull.specs.Propose.{limit, proposal_of};
 ghost use Rattle.format.specs.Bytes.{byte_at, short_at, word_at, list_from};
@@ -55,14 +55,20 @@ pub struct Record<'a> {
 }
 
 impl<'a> Record<'a> {
+    // The file from the record's i-th byte on.
+    fn rest(self, i: usize) -> &'a [u8]
+        ensures { result.now ≡ drop (self.entry.offset + i) self.entry.file.now }
+    {
+        let record = self.file.get(self.offset..).unwrap_or(&[]);
+        record.get(i..).unwrap_or(&[])
+    }
+
     // Past the end 0, here and in `short`, `word` and `atom`, and not None: that a record lies in its file is one check (`check_length` of `record`),
     // made before any of its fields counts, so a None would be a case at every reader and change no answer.
     pub fn byte(self, i: usize) -> u8
         ensures { result ≡ byte_at self.entry.file.now (self.entry.offset + i) }
     {
-        // (Cut from the record on first, which a loop over fields does once.)
-        let rest = self.file.get(self.offset..).unwrap_or(&[]);
-        rest.get(i).copied().unwrap_or(0)
+        self.rest(i).first().copied().unwrap_or(0)
     }
 
     // A number of 2 bytes.
@@ -70,11 +76,11 @@ impl<'a> Record<'a> {
     pub fn short(self, i: usize) -> u16
         ensures { result ≡ short_at self.entry.file.now (self.entry.offset + i) }
     {
-        // Past the end, where i + 1 could wrap.
-        if self.file.len() <= i {
-            return 0;
+        match self.rest(i) {
+            [] => 0,
+            [low] => u16::from(*low),
+            [low, high, ..] => u16::from_le_bytes([*low, *high]),
         }
-        u16::from_le_bytes([self.byte(i), self.byte(i + 1)])
     }
 
     // A number of 8 bytes.
@@ -130,16 +136,17 @@ impl<'a> Record<'a> {
         self.body().saturating_sub(1) / 2
     }
 
-    // The i-th atom that a row or a table names.
+    // The i-th atom that a row or a table names. (One that the file has whole costs one comparison: the pairs do not depend on i, so a loop over atoms
+    // cuts them once.)
     #[tactic(auto, unfolding(crate::specs::Bytes::short_at))]
     pub fn atom(self, i: usize) -> u16
         ensures { result ≡ atom_at self.entry.file.now self.entry.offset i }
     {
-        // Past the end, where 5 + i * 2 could wrap.
-        if self.file.len() / 2 <= i {
-            return 0;
+        let (atoms, _) = self.rest(5).as_chunks::<2>();
+        match atoms.get(i) {
+            Some(atom) => u16::from_le_bytes(*atom),
+            None => self.short(i.saturating_mul(2).saturating_add(5)),
         }
-        self.short(5 + i * 2)
     }
 
     // How many atoms a table names.

@@ -217,7 +217,8 @@ pub fn table_words(k: usize) -> usize
     patterns.div_ceil(128) * 2
 }
 
-// The equations of the table of k atoms that forbids the patterns whose bits are set.
+// The equations of the table of k atoms that forbids the patterns whose bits are set. (Inlined: else the hull is copied once more at each caller.)
+#[inline(always)]
 pub fn propose(k: usize, forbidden: &[u64]) -> Result<Hull, Refusal>
     ensures { result ≡ proposal_of limit k forbidden.now }
 {

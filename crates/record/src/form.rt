@@ -52,7 +52,8 @@ fn may_follow(before: Option<Group>, group: Group) -> bool
     }
 }
 
-// A kind, where it is one and may stand after what was before, told at an offset. (Any number can be asked, by `Kind::try_from`.)
+// A kind, where it is one and may stand after what was before, told at an offset. (Any number of two bytes can be asked, by `Kind::try_from`; a larger one is
+// `Err(UnknownKind)`.)
 #[tactic(auto, unfolding(crate::specs::Form::kind_check))]
 pub fn check_order(
     before: Option<Group>,

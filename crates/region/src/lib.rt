@@ -153,25 +153,25 @@ impl Region {
     }
 
     // Settles an atom as true or false: what becomes of the decision, and the region with it. A refused decision, or one that is against, alters
-    // nothing. (Atom and value are two: `hold` and `cut` have the value in their names.)
+    // nothing. (Atom and value are two: `hold` and `cut` have the value in their names. One return: at each more the region would be copied once more.)
     fn decide(mut self, atom: Atom, value: bool) -> (Result<Answer, Refusal>, Region)
         ensures { result ≡ decide_of value self atom }
     {
-        if let Err(refusal) = self.check_decision(atom) {
-            return (Err(refusal), self);
-        }
-        if words::contains(mask(&self.held, &self.cut, value), atom.0) {
-            return (Ok(Answer::Same), self);
-        }
-        if words::contains(mask(&self.held, &self.cut, !value), atom.0) {
-            return (Ok(Answer::Against), self);
-        }
-        if value {
-            words::insert(&mut self.held, atom.0);
+        let answer = if let Err(refusal) = self.check_decision(atom) {
+            Err(refusal)
+        } else if words::contains(mask(&self.held, &self.cut, value), atom.0) {
+            Ok(Answer::Same)
+        } else if words::contains(mask(&self.held, &self.cut, !value), atom.0) {
+            Ok(Answer::Against)
         } else {
-            words::insert(&mut self.cut, atom.0);
-        }
-        (Ok(Answer::Taken), self)
+            if value {
+                words::insert(&mut self.held, atom.0);
+            } else {
+                words::insert(&mut self.cut, atom.0);
+            }
+            Ok(Answer::Taken)
+        };
+        (answer, self)
     }
 
     // Settles an atom as true.

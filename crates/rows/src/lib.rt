@@ -62,8 +62,8 @@ pub fn lie_within(words: usize, width: usize, first: usize, count: usize) -> boo
     count <= whole && first <= whole - count
 }
 
-// The part of `width` words at a place, the parts counted from 0, if it lies within. (A start that would wrap is past the end; a quotient, as
-// `lie_within` has, takes as long as all else that a visited column costs.)
+// The part of `width` words at a place, the parts counted from 0, if it lies within. (A start that would wrap is past the end: no quotient, as
+// `lie_within` has, since it is asked of each column that is visited.)
 #[tactic(auto, unfolding(crate::specs::Calls::part_of))]
 pub fn part(words: &[u64], width: usize, place: usize) -> Option<&[u64]>
     ensures { option_copied result ≡ part_of width words.now place }

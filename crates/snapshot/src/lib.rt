@@ -204,12 +204,14 @@ pub fn past_rank(system: System, index: &[u64]) -> bool
         )
 }
 
-// Whether what `touched` is asked is fit: the checks of `inspect`, without those of the lists that it is not lent.
+// Whether what `touched` is asked is fit: the checks of `inspect`, without those of the lists that it is not lent. (Region and knowledge by
+// reference, and not inlined: else `touched` loads each of their words once more, beside what `select` loads.)
 #[tactic(auto, unfolding(crate::specs::Touch::touched_check, region::specs::Calls::region_check))]
-fn check(system: System, index: &[u64], region: Region, known: Snapshot) -> Result<(), Refusal>
-    ensures { result ≡ touched_check system index.now region known }
+#[inline(never)]
+fn check(system: System, index: &[u64], region: &Region, known: &Snapshot) -> Result<(), Refusal>
+    ensures { result ≡ touched_check system index.now region.now known.now }
 {
-    if known.overfull(system, region) {
+    if known.overfull(system, *region) {
         return Err(Refusal::Overfull);
     }
     if system.rank > system.rows.min(system.atoms) {
@@ -219,7 +221,7 @@ fn check(system: System, index: &[u64], region: Region, known: Snapshot) -> Resu
         return Err(Refusal::Short);
     }
     region.check()?;
-    known.check_last(system, index, region)
+    known.check_last(system, index, *region)
 }
 
 // The basis rows that are touched, or the refusal.
@@ -232,6 +234,6 @@ pub fn touched(
 ) -> Result<Ordinals, Refusal>
     ensures { result ≡ selected_of system index.now region known }
 {
-    check(system, index, region, known)?;
+    check(system, index, &region, &known)?;
     Ok(select(system.rank, index, region, known))
 }
